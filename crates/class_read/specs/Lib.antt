@@ -1,0 +1,4 @@
+pub mod Lists
+pub mod Text
+pub mod Opcodes
+pub mod ClassGrammar

@@ -1,0 +1,5 @@
+//! The flow of control through a method, and the dependence graph over it.
+#![tactic(auto)]
+
+pub mod dep_nodes;
+pub mod flow;

@@ -1,0 +1,87 @@
+-- The program of one class file: the prelude, here its first class without its members, and the file's class.
+use Rattle.std.specs.Prelude.{◌≡◌, ℕ, zero, suc, Bool, true, false, if◌then◌else◌, List, [], ◌∷◌, map, length, Option, Some, None, option_map, unwrap_or, codes}
+use Rattle.std.specs.Str.{bytes_eq}
+use Rattle.class_read.specs.ClassGrammar.{utf8_at, class_name_at, entry_at}
+use Rattle.class_read.specs.declared.class_pool.PoolEntry.{PoolEntry}
+use Rattle.class_read.specs.declared.class_pool.PoolEntry.TheVariants.{MethodRef, NameAndType}
+use Rattle.class_read.specs.declared.class_pool.ClassFile.{ClassFile}
+use Rattle.class_read.specs.declared.class_pool.MethodInfo.{MethodInfo}
+use Rattle.class_read.specs.declared.class_pool.CodeInfo.{CodeInfo}
+use Rattle.jo_prog.specs.declared.program.Program.{Program}
+use Rattle.jo_prog.specs.declared.program.Class.{Class}
+use Rattle.jo_prog.specs.declared.program.Method.{Method}
+use Rattle.jo_prog.specs.declared.program.Code.{Code}
+use Rattle.jo_prog.specs.declared.program.TypeRef.{TypeRef}
+use Rattle.jo_prog.specs.declared.program.TypeRef.TheVariants.{Class as OfClass}
+use Rattle.jo_prog.specs.declared.program.Operand.{Operand}
+use Rattle.jo_prog.specs.declared.program.Operand.TheVariants.{Unused, Member}
+
+abbrev pub object_name : List ℕ
+object_name = codes "java/lang/Object"
+
+abbrev pub object_class : Class
+object_class = record { name = object_name; flags = 0x0021; superclass = None; interfaces = []; fields = []; methods = []; operands = [] }
+
+-- n numbers from a first one on
+abbrev pub count_from : ℕ → ℕ → List ℕ
+count_from first zero = []
+count_from first (suc n) = first ∷ count_from (suc first) n
+
+-- the text of a Utf8 entry, or none
+abbrev pub text_at : List PoolEntry → ℕ → List ℕ
+text_at pool k = unwrap_or (utf8_at pool k) []
+
+-- ---- what instructions may name: here the methods of the class itself
+
+abbrev pub member_named : List PoolEntry → Option PoolEntry → Operand
+member_named pool (Some (NameAndType name desc)) = Member (record { owner = OfClass 1; name = text_at pool name; desc = text_at pool desc })
+member_named pool _ = Unused
+
+abbrev pub is_named : List ℕ → Option (List ℕ) → Bool
+is_named name None = false
+is_named name (Some other) = bytes_eq other name
+
+abbrev pub operand_of : List PoolEntry → List ℕ → PoolEntry → Operand
+operand_of pool this (MethodRef class type) = if is_named this (class_name_at pool class) then member_named pool (entry_at pool type) else Unused
+operand_of pool this _ = Unused
+
+-- ---- the class of the file
+
+abbrev pub code_of : CodeInfo → Code
+code_of code = record { max_stack = code.max_stack; max_locals = code.max_locals; bytes = code.bytes; rows = [] }
+
+abbrev pub method_of : List PoolEntry → MethodInfo → Method
+method_of pool m = record { class = 1; name = text_at pool m.name; desc = text_at pool m.desc; flags = m.flags; code = option_map code_of m.code }
+
+abbrev pub this_name : ClassFile → List ℕ
+this_name c = unwrap_or (class_name_at c.pool c.this_class) []
+
+abbrev pub super_name : ClassFile → List ℕ
+super_name c = unwrap_or (class_name_at c.pool c.super_class) []
+
+abbrev pub this_class_of : ClassFile → Class
+this_class_of c = record {
+  name = this_name c;
+  flags = c.flags;
+  superclass = Some 0;
+  interfaces = [];
+  fields = [];
+  methods = count_from 0 (length c.methods);
+  operands = Unused ∷ map (operand_of c.pool (this_name c)) c.pool;
+}
+
+unfoldable pub program_of : ClassFile → Program
+program_of c = record { classes = object_class ∷ this_class_of c ∷ []; fields = []; methods = map (method_of c.pool) c.methods }
+
+-- the names of the prelude's classes, all of them in java/lang
+abbrev pub prelude_names : List (List ℕ)
+prelude_names =
+    codes "java/lang/Object" ∷ codes "java/lang/String" ∷ codes "java/lang/Runnable" ∷ codes "java/lang/Thread"
+    ∷ codes "java/lang/Throwable" ∷ codes "java/lang/Exception" ∷ codes "java/lang/Error" ∷ codes "java/lang/RuntimeException"
+    ∷ codes "java/lang/ArithmeticException" ∷ codes "java/lang/NullPointerException" ∷ codes "java/lang/ClassCastException"
+    ∷ codes "java/lang/IndexOutOfBoundsException" ∷ codes "java/lang/ArrayStoreException"
+    ∷ codes "java/lang/NegativeArraySizeException" ∷ codes "java/lang/IllegalArgumentException"
+    ∷ codes "java/lang/IllegalStateException" ∷ codes "java/lang/IllegalMonitorStateException"
+    ∷ codes "java/lang/UnsupportedOperationException" ∷ codes "java/lang/ArrayIndexOutOfBoundsException"
+    ∷ codes "java/lang/IllegalThreadStateException" ∷ codes "java/lang/InterruptedException"
+    ∷ codes "java/lang/LinkageError" ∷ codes "java/lang/IncompatibleClassChangeError" ∷ []

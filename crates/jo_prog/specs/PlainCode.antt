@@ -1,0 +1,91 @@
+-- Labels that fit a program, and the first form of programs: one class, whose only code is the entry's, in one straight line.
+use Rattle.std.specs.Prelude.{◌≡◌, ◌⊎◌, ℕ, ◌<◌, Bool, true, false, ◌==◌, List, [], ◌∷◌, length, map, Option, Some, None, IsSome, IsNone, codes}
+use Rattle.std.specs.List.{AllByRecursion}
+use Rattle.std.specs.List.Sorted.{IsStrictlyIncreasing}
+use Rattle.class_read.specs.ClassGrammar.{has_flag, static_flag, native_flag}
+use Rattle.class_read.specs.declared.jo_insn.Operation.{Operation}
+use Rattle.class_read.specs.declared.jo_insn.Operation.TheVariants.{Constant, Load, Store, Add, Subtract, InvokeStatic, Return, Other}
+use Rattle.jo_prog.specs.declared.labels.Label.{Label}
+use Rattle.jo_prog.specs.declared.labels.Label.TheVariants.{Source, Sink, Release}
+use Rattle.jo_prog.specs.declared.labels.Labels.{Labels}
+use Rattle.jo_prog.specs.declared.program.Program.{Program}
+use Rattle.jo_prog.specs.declared.program.Method.{Method}
+use Rattle.jo_prog.specs.declared.program.Code.{Code}
+use Rattle.jo_prog.specs.Labels.{label_of, flows}
+use Rattle.jo_prog.specs.Program.{method_at, code_at, operation_at, callee_at}
+use Rattle.jo_prog.specs.Typing.{IsTypedCode}
+
+-- the descriptor that a label asks for
+abbrev pub desc_for : Label → List ℕ
+desc_for (Source level) = codes "()I"
+desc_for (Sink level) = codes "(I)V"
+desc_for (Release from to) = codes "(I)I"
+
+-- the levels of a label are there, and a release lets nothing up: its `to` flows to its `from`
+abbrev pub HasGoodLevels : Labels → Label → Type 0
+HasGoodLevels labels (Source level) = level < length labels.levels
+HasGoodLevels labels (Sink level) = level < length labels.levels
+HasGoodLevels labels (Release from to) = (from < length labels.levels) × (to < length labels.levels) × (flows labels to from ≡ true)
+
+-- a labelled method is a static native of the program, of the label's shape
+pub record IsLabelledNative (program : Program) (labels : Labels) (item : ℕ × Label) : Type 0 where
+  pub method : Method
+  pub found : method_at program item.0 ≡ Some method
+  pub is_static : has_flag static_flag method.flags ≡ true
+  pub is_native : has_flag native_flag method.flags ≡ true
+  pub no_code : method.code ≡ None
+  pub shape : method.desc ≡ desc_for item.1
+  pub levels : HasGoodLevels labels item.1
+
+-- the entry is a static method with code and without parameters
+pub record IsEntry (program : Program) (m : ℕ) : Type 0 where
+  pub method : Method
+  pub found : method_at program m ≡ Some method
+  pub is_static : has_flag static_flag method.flags ≡ true
+  pub has_code : IsSome method.code
+  pub shape : method.desc ≡ codes "()V"
+
+-- labels that fit a program: all numbers are there, each native has its label, and no method has two
+pub record IsWellLabelled (program : Program) (labels : Labels) : Type 0 where
+  pub pairs : AllByRecursion (λ (pair : ℕ × ℕ). (pair.0 < length labels.levels) × (pair.1 < length labels.levels)) labels.flows
+  pub observers : AllByRecursion (λ (l : ℕ). l < length labels.levels) labels.observers
+  pub entry : IsEntry program labels.entry
+  pub natives : AllByRecursion (IsLabelledNative program labels) labels.labelled
+  pub in_order : IsStrictlyIncreasing (map (λ (item : ℕ × Label). item.0) labels.labelled)
+  pub each_native : (m : ℕ) (method : Method) → method_at program m ≡ Some method → has_flag native_flag method.flags ≡ true → IsSome (label_of labels m)
+
+-- ---- plain code
+
+abbrev pub is_source_or_sink : Option Label → Bool
+is_source_or_sink (Some (Source level)) = true
+is_source_or_sink (Some (Sink level)) = true
+is_source_or_sink _ = false
+
+abbrev pub calls_labelled : Labels → Option ℕ → Bool
+calls_labelled labels None = false
+calls_labelled labels (Some m) = is_source_or_sink (label_of labels m)
+
+-- an operation of plain code that isn't its last
+abbrev pub goes_on : Labels → Option ℕ → Operation → Bool
+goes_on labels callee (Constant z) = true
+goes_on labels callee (Load k) = true
+goes_on labels callee (Store k) = true
+goes_on labels callee Add = true
+goes_on labels callee Subtract = true
+goes_on labels callee (InvokeStatic k) = calls_labelled labels callee
+goes_on labels callee Return = false
+goes_on labels callee Other = false
+
+-- from this pc on the code is plain, up to the return that is its last instruction
+pub data IsPlainFrom (program : Program) (labels : Labels) (m : ℕ) (code : Code) : ℕ → Type 0 where
+  last : (pc next : ℕ) → operation_at program m pc ≡ Some (Return, next) → next ≡ length code.bytes → IsPlainFrom program labels m code pc
+  then : (pc next : ℕ) (operation : Operation) → operation_at program m pc ≡ Some (operation, next) → goes_on labels (callee_at program m pc) operation ≡ true
+      → IsPlainFrom program labels m code next → IsPlainFrom program labels m code pc
+
+-- the entry's code is typed and plain, and the labels fit
+pub record IsPlainProgram (program : Program) (labels : Labels) : Type 0 where
+  pub well_labelled : IsWellLabelled program labels
+  pub code : Code
+  pub found : code_at program labels.entry ≡ Some code
+  pub typed : IsTypedCode program labels.entry code
+  pub plain : IsPlainFrom program labels labels.entry code 0

@@ -1,0 +1,72 @@
+-- What stands in a program: the instruction at a pc, and the method that it names.
+use Rattle.std.specs.Prelude.{◌≡◌, ℕ, Bool, true, false, ◌&&◌, ◌==◌, if◌then◌else◌, List, [], ◌∷◌, Option, Some, None, option_and_then, option_map, slice_get}
+use Rattle.std.specs.Str.{bytes_eq}
+use Rattle.class_read.specs.Opcodes.{decoded, operation_of}
+use Rattle.class_read.specs.declared.jo_insn.Insn.{Insn}
+use Rattle.class_read.specs.declared.jo_insn.Operation.{Operation}
+use Rattle.class_read.specs.declared.jo_insn.Operation.TheVariants.{Constant, Load, Store, Add, Subtract, InvokeStatic, Return, Other}
+use Rattle.jo_prog.specs.declared.program.Program.{Program}
+use Rattle.jo_prog.specs.declared.program.Class.{Class}
+use Rattle.jo_prog.specs.declared.program.Method.{Method}
+use Rattle.jo_prog.specs.declared.program.Code.{Code}
+use Rattle.jo_prog.specs.declared.program.MemberRef.{MemberRef}
+use Rattle.jo_prog.specs.declared.program.TypeRef.{TypeRef}
+use Rattle.jo_prog.specs.declared.program.TypeRef.TheVariants.{Class as OfClass, Array as OfArray}
+use Rattle.jo_prog.specs.declared.program.Operand.{Operand}
+use Rattle.jo_prog.specs.declared.program.Operand.TheVariants.{Unused, Int, Text, OfType, Member}
+
+abbrev pub method_at : Program → ℕ → Option Method
+method_at program m = slice_get program.methods m
+
+abbrev pub class_at : Program → ℕ → Option Class
+class_at program c = slice_get program.classes c
+
+abbrev pub code_at : Program → ℕ → Option Code
+code_at program m = option_and_then (λ (method : Method). method.code) (method_at program m)
+
+-- what the instruction at a pc of a method does, and the next pc
+abbrev pub as_operation : Insn × ℕ → Operation × ℕ
+as_operation found = (operation_of found.0, found.1)
+
+abbrev pub operation_in : Option Code → ℕ → Option (Operation × ℕ)
+operation_in None pc = None
+operation_in (Some code) pc = option_map as_operation (decoded code.bytes pc)
+
+abbrev pub operation_at : Program → ℕ → ℕ → Option (Operation × ℕ)
+operation_at program m pc = operation_in (code_at program m) pc
+
+-- ---- the method that a call names (JVMS 5.4.3.3)
+
+-- the first of these methods with that name and descriptor
+abbrev pub has_signature : List ℕ → List ℕ → Option Method → Bool
+has_signature name desc None = false
+has_signature name desc (Some method) = bytes_eq method.name name && bytes_eq method.desc desc
+
+abbrev pub first_with : Program → List ℕ → List ℕ → List ℕ → Option ℕ
+first_with program name desc [] = None
+first_with program name desc (m ∷ ms) = if has_signature name desc (method_at program m) then Some m else first_with program name desc ms
+
+-- the method that a class resolves. Here no superclass has a member, so it is one of the class itself.
+abbrev pub resolve : Program → ℕ → List ℕ → List ℕ → Option ℕ
+resolve program c name desc = option_and_then (λ (class : Class). first_with program name desc class.methods) (class_at program c)
+
+abbrev pub resolve_owned : Program → TypeRef → List ℕ → List ℕ → Option ℕ
+resolve_owned program (OfClass c) name desc = resolve program c name desc
+resolve_owned program (OfArray desc) name d = None
+
+abbrev pub resolve_operand : Program → Option Operand → Option ℕ
+resolve_operand program (Some (Member ref)) = resolve_owned program ref.owner ref.name ref.desc
+resolve_operand program _ = None
+
+-- the operand with that pool index in the class of a method
+abbrev pub operand_at : Program → ℕ → ℕ → Option Operand
+operand_at program m index = option_and_then (λ (class : Class). slice_get class.operands index)
+    (option_and_then (λ (method : Method). class_at program method.class) (method_at program m))
+
+-- the method that the call at a pc of a method names
+abbrev pub callee_of : Program → ℕ → Option (Operation × ℕ) → Option ℕ
+callee_of program m (Some (InvokeStatic index, next)) = resolve_operand program (operand_at program m index)
+callee_of program m _ = None
+
+abbrev pub callee_at : Program → ℕ → ℕ → Option ℕ
+callee_at program m pc = callee_of program m (operation_at program m pc)

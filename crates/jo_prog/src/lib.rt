@@ -1,0 +1,6 @@
+//! Programs: classes with their methods, the policy's labels for them, and what a run of one is.
+#![tactic(auto)]
+
+pub mod labels;
+pub mod program;
+pub mod runs;
