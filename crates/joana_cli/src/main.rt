@@ -1,0 +1,4 @@
+//! The program `joana`.
+#![tactic(auto)]
+
+fn main() {}
