@@ -18,3 +18,6 @@ pub use std::alloc::AllocError as Memory;
 pub use std_files::StdFiles;
 pub use std_sink::StdSink;
 pub use sure_sink::SureSink;
+
+#[cfg(test)]
+mod tests;
