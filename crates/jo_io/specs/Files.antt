@@ -1,5 +1,5 @@
 -- How a read ends.
-use Rattle.std.specs.Prelude.{⊤, Result, Ok, Err, Option, Some, None, List, [], ℕ, string_bytes, String}
+use Rattle.std.specs.Prelude.{⊤, Result, Ok, Err, Option, Some, None, List, [], ℕ, string_bytes, String, codes}
 use Rattle.std.specs.declared.alloc.Global.{Global}
 use Rattle.jo_io.specs.declared.files.FileFault.{FileFault}
 use Rattle.jo_io.specs.declared.files.FileFault.TheVariants.{Failed, Memory}
@@ -21,3 +21,8 @@ OnFailed (Err Failed) P = P
 abbrev pub name_of : Option (String Global) → List ℕ
 name_of None = []
 name_of (Some name) = string_bytes name
+
+-- what a fault prints
+abbrev pub fault_text : FileFault → List ℕ
+fault_text Failed = codes "a read failed"
+fault_text Memory = codes "out of memory"

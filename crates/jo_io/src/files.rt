@@ -1,9 +1,11 @@
 // Named files that are read whole.
-ghost use Rattle.std.specs.Prelude.{◌≡◌, ◌≤◌, List, ℕ, Option, IfOk, IfSome};
+ghost use Rattle.std.specs.Prelude.{◌≡◌, ◌≤◌, List, ℕ, Option, Some, IfOk, IfSome};
 ghost use Rattle.jo_io.specs.declared.files.FileFault.TheVariants.{Memory};
-ghost use Rattle.jo_io.specs.Files.{Rose, UnlessFailed, OnFailed};
+ghost use Rattle.jo_io.specs.Files.{Rose, UnlessFailed, OnFailed, fault_text};
 
 use std::alloc::{AllocError, Global};
+use std::error::Error;
+use std::fmt;
 
 /// Why a read has no answer.
 #[derive(Clone, Copy, Debug, PartialEq, Eq)]
@@ -13,6 +15,19 @@ pub enum FileFault {
     /// The memory for the answer is wanting.
     Memory,
 }
+
+impl fmt::Display for FileFault {
+    ghost output = { λ fault. Some (fault_text fault) };
+
+    fn fmt<W: fmt::Write>(&self, f: &mut fmt::Formatter<W>) -> fmt::Result {
+        match self {
+            FileFault::Failed => write!(f, "a read failed"),
+            FileFault::Memory => write!(f, "out of memory"),
+        }
+    }
+}
+
+impl Error for FileFault {}
 
 impl From<AllocError> for FileFault {
     ghost from_gives = { λ _ fault. fault ≡ Memory };

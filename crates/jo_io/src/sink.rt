@@ -1,10 +1,23 @@
 // Where bytes go.
-ghost use Rattle.std.specs.Prelude.{◌≡◌, ◌≤◌, List, ℕ, Option, OnOk, OnErr};
+ghost use Rattle.std.specs.Prelude.{◌≡◌, ◌≤◌, List, ℕ, Option, Some, OnOk, OnErr, codes};
 ghost use Rattle.jo_io.specs.Sink.{Rose, Extends, ExtendsByPrefix};
+
+use std::error::Error;
+use std::fmt;
 
 /// A write failed.
 #[derive(Clone, Copy, Debug, PartialEq, Eq)]
 pub struct Failed;
+
+impl fmt::Display for Failed {
+    ghost output = { λ _. Some (codes "a write failed") };
+
+    fn fmt<W: fmt::Write>(&self, f: &mut fmt::Formatter<W>) -> fmt::Result {
+        write!(f, "a write failed")
+    }
+}
+
+impl Error for Failed {}
 
 /// A sink that takes nothing of a piece that isn't empty has failed.
 pub trait Sink {
