@@ -157,7 +157,7 @@ labels_fit_from labelled first (m ∷ ms) = fits_label m (label_among labelled f
 abbrev pub labels_with : Program → List (List ℕ) → List (ℕ × ℕ) → ℕ → List (ℕ × Label) → Option Labels
 labels_with program levels pairs entry labelled =
     where_holds (labels_fit_from labelled 0 program.methods)
-        (record { levels = levels; flows = pairs; observers = count_from 0 (length levels); entry = entry; labelled = labelled })
+    (record { levels = levels; flows = pairs; observers = count_from 0 (length levels); entry = entry; labelled = labelled })
 
 abbrev pub labels_by : Program → List (List ℕ) → List (ℕ × ℕ) → ℕ → Members → Members → Option Labels
 labels_by program levels pairs entry sources sinks =
@@ -175,5 +175,5 @@ unfoldable pub policy_of : Members → Program → Option Labels
 policy_of tree program =
     if keys_are_known tree
     then labels_from program (levels_of (get_member (codes "levels") tree)) (λ levels. flows_of levels (get_member (codes "flows") tree))
-        (entry_of program (get_member (codes "entry") tree)) (table_of (get_member (codes "sources") tree)) (table_of (get_member (codes "sinks") tree))
+    (entry_of program (get_member (codes "entry") tree)) (table_of (get_member (codes "sources") tree)) (table_of (get_member (codes "sinks") tree))
     else None

@@ -1,4 +1,6 @@
 //! The program `joana`.
 #![tactic(auto)]
 
+mod status;
+
 fn main() {}

@@ -1,0 +1,48 @@
+-- The words of a command, the paths of a class list, the status of a run, and the lines of notes (this project's own).
+use Rattle.std.specs.Prelude.{◌≡◌, ℕ, Bool, ◌==◌, not, if◌then◌else◌, List, [], ◌∷◌, ◌++◌, length, filter, Option, Some, None, codes}
+use Rattle.std.specs.Str.{bytes_eq}
+use Rattle.std.specs.Str.Lines.{lines}
+use Rattle.joana_cli.specs.declared.status.Status.{Status}
+use Rattle.joana_cli.specs.declared.status.Status.TheVariants.{Done, Refused, Words, Input, Limit, Outside, Memory}
+use Rattle.joana_cli.specs.declared.status.OutsideFault.{OutsideFault}
+use Rattle.joana_cli.specs.declared.status.OutsideFault.TheVariants.{File, Output, Notes}
+
+-- the names of the two files that `check CLASSES POLICY` names
+pub record CheckNames : Type 0 where
+  pub classes : List ℕ
+  pub policy : List ℕ
+
+-- the names, where the words are exactly that form
+abbrev pub check_names : List (List ℕ) → Option CheckNames
+check_names (command ∷ classes ∷ policy ∷ []) = if bytes_eq command (codes "check") then Some (record { classes = classes; policy = policy }) else None
+check_names _ = None
+
+-- The paths of a class list: a line each. Lines end with LF, a CR before it is dropped, the last one may lack the LF, and
+-- empty lines are skipped.
+abbrev pub paths_of : List ℕ → List (List ℕ)
+paths_of text = filter (λ line. not (length line == 0)) (lines text)
+
+abbrev pub code_of : Status → ℕ
+code_of Done = 0
+code_of Refused = 1
+code_of Words = 2
+code_of (Input fault) = 3
+code_of (Limit kind) = 4
+code_of (Outside fault) = 5
+code_of Memory = 6
+
+-- the lines of notes
+abbrev pub words_line : List ℕ
+words_line = codes "joana: words\n"
+
+abbrev pub not_built_line : List ℕ
+not_built_line = codes "joana: input NotBuilt\n"
+
+abbrev pub file_line : List ℕ → List ℕ
+file_line name = codes "joana: outside " ++ name ++ codes "\n"
+
+abbrev pub output_line : List ℕ
+output_line = codes "joana: outside output\n"
+
+abbrev pub accepted_text : List ℕ
+accepted_text = codes "accepted\n"
