@@ -6,3 +6,5 @@ pub mod Report
 pub mod Words
 pub mod FirstForm
 pub mod Outcome
+pub mod Input
+pub mod Decision

@@ -1,5 +1,5 @@
 -- What each answer of a run says: of the files, of what was put, and of the program.
-use Rattle.std.specs.Prelude.{◌≡◌, ◌⊎◌, ℕ, zero, suc, ◌<◌, ◌≤◌, List, [], ◌∷◌, ◌++◌, Option, Some, None, Contains, IfSome, slice_get, IsNone}
+use Rattle.std.specs.Prelude.{◌≡◌, ◌⊎◌, ℕ, zero, suc, ◌<◌, ◌≤◌, List, Option, Some, None, Contains, IfSome, slice_get}
 use Rattle.jo_io.specs.Counts.{Rose}
 use Rattle.jo_io.specs.Sink.{Extends, ExtendsByPrefix}
 use Rattle.jo_prog.specs.declared.program.Program.{Program}
@@ -8,13 +8,11 @@ use Rattle.flow_graph.specs.Graph.{Node}
 use Rattle.flow_graph.specs.Chains.{Link}
 use Rattle.joana_cli.specs.Verdict.{IllegalChain, Clean}
 use Rattle.joana_cli.specs.Report.{chain_text}
-use Rattle.joana_cli.specs.Words.{CheckNames, check_names, paths_of, words_line, not_built_line, file_line, output_line, accepted_text}
+use Rattle.joana_cli.specs.Words.{CheckNames, paths_of, words_line, not_built_line, file_line, output_line, accepted_text}
 use Rattle.joana_cli.specs.FirstForm.{Held, AreTold, IsInput}
 use Rattle.joana_cli.specs.declared.status.Status.{Status}
 use Rattle.joana_cli.specs.declared.status.Status.TheVariants.{Done, Refused, Words, Input, Limit, Outside, Memory}
-use Rattle.joana_cli.specs.declared.status.InputFault.{InputFault}
 use Rattle.joana_cli.specs.declared.status.InputFault.TheVariants.{NotBuilt}
-use Rattle.joana_cli.specs.declared.status.OutsideFault.{OutsideFault}
 use Rattle.joana_cli.specs.declared.status.OutsideFault.TheVariants.{File, Output, Notes}
 
 -- ---- the files
@@ -79,6 +77,11 @@ OutAfter Refused old_given new_given old new = (text : List ℕ) × IsAnswerText
 OutAfter (Outside Output) old_given new_given old new = (text : List ℕ) × IsAnswerText text × TookPart old_given new_given old new text
 OutAfter _ old_given new_given old new = TookNothing old_given new_given old new
 
+-- what the output was given where the answer was to be this text with this status
+abbrev pub OutAfterText : List ℕ → Status → Status → Option (List ℕ) → Option (List ℕ) → ℕ → ℕ → Type 0
+OutAfterText text status (Outside Output) old_given new_given old new = TookPart old_given new_given old new text
+OutAfterText text status result old_given new_given old new = (result ≡ status) × TookAll old_given new_given old new text
+
 -- ---- the verdict
 
 -- no observer has an illegal chain
@@ -110,6 +113,10 @@ Says held names _ old_given new_given = Unit {0}
 abbrev pub SaysOf : Held → Option CheckNames → Status → Option (List ℕ) → Option (List ℕ) → Type 0
 SaysOf held None result old_given new_given = Unit {0}
 SaysOf held (Some names) result old_given new_given = AreTold held names → Says held names result old_given new_given
+
+-- an answer that has a line of notes alone
+abbrev pub IsRefusal : Status → Type 0
+IsRefusal result = (result ≡ Words) ⊎ (result ≡ Outside Notes)
 
 -- the words are no command, or are one
 abbrev pub WordsSay : Option CheckNames → Status → Type 0

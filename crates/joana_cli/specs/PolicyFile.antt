@@ -1,13 +1,13 @@
 -- The policy as a function of the TOML tree of its file (this project's own), in its part on small policies: no other keys
 -- than `levels`, `flows`, `entry`, `sources` and `sinks`, one or two levels, and at most one pair of flows. Where the file
 -- has a fault, there is none.
-use Rattle.std.specs.Prelude.{◌≡◌, ℕ, zero, suc, Bool, true, false, ◌&&◌, ◌||◌, not, nat_le, ◌==◌, if◌then◌else◌, List, [], ◌∷◌, length, Option, Some, None, is_some, is_none, option_and_then, option_map, codes}
+use Rattle.std.specs.Prelude.{ℕ, suc, Bool, true, false, ◌&&◌, not, ◌==◌, if◌then◌else◌, List, [], ◌∷◌, length, Option, Some, None, is_some, is_none, option_and_then, option_map, codes}
 use Rattle.std.specs.List.{list_any}
 use Rattle.std.specs.Str.{bytes_eq}
-use Rattle.toml.specs.Data.{Data, string, integer, float, boolean, datetime, array, table, Items, no_items, item, Members, no_members, member, get_member, as_str, as_array, as_table}
+use Rattle.toml.specs.Data.{Data, Items, no_items, item, Members, no_members, member, get_member, as_str, as_array, as_table}
 use Rattle.class_read.specs.ClassGrammar.{has_flag, static_flag, native_flag}
 use Rattle.jo_prog.specs.declared.labels.Label.{Label}
-use Rattle.jo_prog.specs.declared.labels.Label.TheVariants.{Source, Sink, Release}
+use Rattle.jo_prog.specs.declared.labels.Label.TheVariants.{Source, Sink}
 use Rattle.jo_prog.specs.declared.labels.Labels.{Labels}
 use Rattle.jo_prog.specs.declared.program.Program.{Program}
 use Rattle.jo_prog.specs.declared.program.Method.{Method}

@@ -5,7 +5,7 @@ use Rattle.jo_prog.specs.declared.program.Program.{Program}
 use Rattle.jo_prog.specs.declared.labels.Labels.{Labels}
 use Rattle.jo_prog.specs.declared.runs.SourceInput.{SourceInput}
 use Rattle.jo_prog.specs.declared.runs.Event.{Event}
-use Rattle.jo_prog.specs.declared.runs.Event.TheVariants.{Out, Release as Released}
+use Rattle.jo_prog.specs.declared.runs.Event.TheVariants.{Release as Released}
 use Rattle.jo_prog.specs.declared.runs.Trace.{Trace}
 use Rattle.jo_prog.specs.Labels.{label_of, brings, lets_out, reaches}
 use Rattle.jo_prog.specs.Machine.{input_at}

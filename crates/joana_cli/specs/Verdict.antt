@@ -1,10 +1,9 @@
 -- What makes a program clean for an observer: no illegal chain (after Hammer and Snelting 2009; the three ends and the rule
 -- that a release counts as a source of level `to` are this project's own). Without a fork there is no conflict.
-use Rattle.std.specs.Prelude.{◌≡◌, ℕ, Bool, true, false, List, Option, Some, None}
+use Rattle.std.specs.Prelude.{◌≡◌, ℕ, true, List}
 use Rattle.jo_prog.specs.declared.program.Program.{Program}
 use Rattle.jo_prog.specs.declared.labels.Labels.{Labels}
 use Rattle.jo_prog.specs.Labels.{reaches, misses, shown_at, brings, lets_out}
-use Rattle.flow_graph.specs.declared.flow.NodeKind.{NodeKind}
 use Rattle.flow_graph.specs.declared.flow.NodeKind.TheVariants.{Call, RetVal, Arg}
 use Rattle.flow_graph.specs.Flow.{IsFlowNode}
 use Rattle.flow_graph.specs.Graph.{Instance, Node, node, IsReached, label_at}

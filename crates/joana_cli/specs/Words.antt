@@ -1,11 +1,10 @@
 -- The words of a command, the paths of a class list, the status of a run, and the lines of notes (this project's own).
-use Rattle.std.specs.Prelude.{◌≡◌, ℕ, Bool, ◌==◌, not, if◌then◌else◌, List, [], ◌∷◌, ◌++◌, length, filter, Option, Some, None, codes}
+use Rattle.std.specs.Prelude.{ℕ, ◌==◌, not, if◌then◌else◌, List, [], ◌∷◌, ◌++◌, length, filter, Option, Some, None, codes}
 use Rattle.std.specs.Str.{bytes_eq}
 use Rattle.std.specs.Str.Lines.{lines}
+use Rattle.joana_cli.specs.declared.words.CheckNames.{CheckNames as WordNames}
 use Rattle.joana_cli.specs.declared.status.Status.{Status}
 use Rattle.joana_cli.specs.declared.status.Status.TheVariants.{Done, Refused, Words, Input, Limit, Outside, Memory}
-use Rattle.joana_cli.specs.declared.status.OutsideFault.{OutsideFault}
-use Rattle.joana_cli.specs.declared.status.OutsideFault.TheVariants.{File, Output, Notes}
 
 -- the names of the two files that `check CLASSES POLICY` names
 pub record CheckNames : Type 0 where
@@ -46,3 +45,7 @@ output_line = codes "joana: outside output\n"
 
 abbrev pub accepted_text : List ℕ
 accepted_text = codes "accepted\n"
+
+-- the names that the program holds
+abbrev pub names_of : WordNames → CheckNames
+names_of names = record { classes = names.classes.now; policy = names.policy.now }

@@ -1,6 +1,10 @@
 //! The program `joana`.
 #![tactic(auto)]
 
+mod check;
+mod input;
 mod status;
+mod top;
+mod words;
 
 fn main() {}
