@@ -1,4 +1,5 @@
 pub mod Lists
 pub mod Text
+pub mod TextScan
 pub mod Opcodes
 pub mod ClassGrammar
