@@ -19,12 +19,13 @@ pub along_from_flows : (pairs : List (ℕ × ℕ)) (a b : ℕ) → flows_by pair
 along_from_flows [] a b h = subst (λ x. FlowsAlong [] a x) (eqb-true a b h) (stays a)
 along_from_flows (pair ∷ pairs) a b h =
     elim (or_cases (flows_by pairs a b) (flows_by pairs a pair.0 && flows_by pairs pair.1 b) h) [
-        inl e ↦ along_more pair pairs (along_from_flows pairs a b e)
+      | inl e ↦ along_more pair pairs (along_from_flows pairs a b e)
       | inr e ↦
-        let both = and_parts (flows_by pairs a pair.0) (flows_by pairs pair.1 b) e in
-        let first = along_more pair pairs (along_from_flows pairs a pair.0 both.0) in
-        let last = along_more pair pairs (along_from_flows pairs pair.1 b both.1) in
-        along_on (pair ∷ pairs) first (goes pair.0 pair.1 b (0, omega arith, refl) last) ]
+          let both = and_parts (flows_by pairs a pair.0) (flows_by pairs pair.1 b) e in
+          let first = along_more pair pairs (along_from_flows pairs a pair.0 both.0) in
+          let last = along_more pair pairs (along_from_flows pairs pair.1 b both.1) in
+          along_on (pair ∷ pairs) first (goes pair.0 pair.1 b (0, omega arith, refl) last)
+    ]
 
 flows_by-self : (pairs : List (ℕ × ℕ)) (a : ℕ) → flows_by pairs a a ≡ true
 flows_by-self [] a = eq-eqb a a refl
@@ -42,18 +43,21 @@ flows_by-on (pair ∷ pairs) a b c h k =
     let p = pair.0 in let q = pair.1 in
     let F = flows_by pairs in
     elim (or_cases (F a b) (F a p && F q b) h) [
-        inl first ↦ elim (or_cases (F b c) (F b p && F q c) k) [
-            inl next ↦ or_left (F a c) _ (flows_by-on pairs a b c first next)
-          | inr next ↦
+      | inl first ↦ elim (or_cases (F b c) (F b p && F q c) k) [
+        | inl next ↦ or_left (F a c) _ (flows_by-on pairs a b c first next)
+        | inr next ↦
             let both = and_parts (F b p) (F q c) next in
-            or_right (F a c) _ (and_from (F a p) (F q c) (flows_by-on pairs a b p first both.0) both.1) ]
+            or_right (F a c) _ (and_from (F a p) (F q c) (flows_by-on pairs a b p first both.0) both.1)
+      ]
       | inr first ↦
-        let start = and_parts (F a p) (F q b) first in
-        elim (or_cases (F b c) (F b p && F q c) k) [
-            inl next ↦ or_right (F a c) _ (and_from (F a p) (F q c) start.0 (flows_by-on pairs q b c start.1 next))
-          | inr next ↦
-            let both = and_parts (F b p) (F q c) next in
-            or_right (F a c) _ (and_from (F a p) (F q c) start.0 both.1) ] ]
+          let start = and_parts (F a p) (F q b) first in
+          elim (or_cases (F b c) (F b p && F q c) k) [
+            | inl next ↦ or_right (F a c) _ (and_from (F a p) (F q c) start.0 (flows_by-on pairs q b c start.1 next))
+            | inr next ↦
+                let both = and_parts (F b p) (F q c) next in
+                or_right (F a c) _ (and_from (F a p) (F q c) start.0 both.1)
+          ]
+    ]
 
 pub flows_from_along : (pairs : List (ℕ × ℕ)) {a b : ℕ} → FlowsAlong pairs a b → flows_by pairs a b ≡ true
 flows_from_along pairs (stays a) = flows_by-self pairs a

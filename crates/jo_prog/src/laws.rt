@@ -6,5 +6,4 @@ ghost use Rattle.jo_prog.specs.Labels.{FlowsAlong, flows_by};
 pub fn flows_by_is_closure()
     ensures along { (pairs : List (ℕ × ℕ)) (a b : ℕ) → flows_by pairs a b ≡ true → FlowsAlong pairs a b }
     ensures every { (pairs : List (ℕ × ℕ)) (a b : ℕ) → FlowsAlong pairs a b → flows_by pairs a b ≡ true }
-{
-}
+{}

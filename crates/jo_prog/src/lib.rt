@@ -3,5 +3,6 @@
 
 pub mod labels;
 pub mod laws;
+pub mod linker;
 pub mod program;
 pub mod runs;

@@ -173,7 +173,11 @@ fn operand_at(program: &Program, method: MethodId, index: u16) -> Option<&Operan
 }
 
 /// The method that an operation of a method names.
-pub(crate) fn callee_of(program: &Program, method: MethodId, operation: Operation) -> Option<MethodId>
+pub(crate) fn callee_of(
+    program: &Program,
+    method: MethodId,
+    operation: Operation,
+) -> Option<MethodId>
     ensures { (next : ℕ) → result ≡ callee_of program.now method (Some (operation, next)) }
 {
     let Operation::InvokeStatic(index) = operation else {
