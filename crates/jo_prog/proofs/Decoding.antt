@@ -1,9 +1,9 @@
 -- Decoding rises: the next pc is above the pc, and not beyond the end of the code.
-use Rattle.std.proofs.Common.{◌≡◌, ℕ, ◌+◌, ◌<◌, ◌≤◌, Bool, true, false, cond, List, length, Option, Some, None, refl, arith, ltb}
+use Rattle.std.proofs.Common.{ap, ◌≡◌, ℕ, ◌+◌, ◌<◌, ◌≤◌, Bool, true, false, cond, List, length, Option, Some, None, refl, arith, ltb}
 use Rattle.std.specs.Prelude.{option_map, slice_index}
 use Rattle.std.proofs.lemmas.Bool.{ltb-true}
 use Rattle.std.proofs.lemmas.Option.{none-some, cond_some, some_pair_parts}
-use Rattle.class_read.specs.Opcodes.{Operands, NoOperand, SignedByte, SignedShort, LocalByte, PoolShort, spelled_at, spelled_by, decoded, operands_of}
+use Rattle.class_read.specs.Opcodes.{operation_of, Operands, NoOperand, SignedByte, SignedShort, LocalByte, PoolShort, spelled_at, spelled_by, decoded, operands_of}
 use Rattle.class_read.specs.declared.jo_insn.Insn.{Insn}
 use Rattle.class_read.specs.declared.jo_insn.Insn.TheVariants.{Plain}
 use Rattle.class_read.specs.declared.jo_insn.Operation.{Operation}
@@ -50,3 +50,20 @@ decoded-next code pc next insn e =
     let op = slice_index code pc in
     let g = guarded (ltb pc (length code)) (spelled_by code pc op (operands_of op)) (insn, next) e in
     spelled_by-next code pc op next insn (operands_of op) (ltb-true pc (length code) g.0) g.1
+
+-- what was decoded, where an operation was found
+found-decoded : (o : Option (Insn × ℕ)) (operation : Operation) (next : ℕ) → option_map as_operation o ≡ Some (operation, next) → (insn : Insn) × (o ≡ Some (insn, next))
+found-decoded None operation next e = absurd (none-some _ e)
+found-decoded (Some (insn, after)) operation next e =
+    (insn, ap (λ (n : ℕ). Some (insn, n)) (some_pair_parts (operation_of insn) operation after next e).1)
+
+pub operation_in-next : (code : Option Code) (pc next : ℕ) (operation : Operation) → operation_in code pc ≡ Some (operation, next) → (pc < next) × (next ≤ pc + 3)
+operation_in-next None pc next operation e = absurd (none-some _ e)
+operation_in-next (Some code) pc next operation e =
+    let found = found-decoded (decoded code.bytes pc) operation next e in
+    let is_next = decoded-next code.bytes pc next found.0 found.1 in
+    (is_next.above, is_next.near)
+
+-- decoding rises
+pub operation_at-next : (program : Program) (m pc next : ℕ) (operation : Operation) → operation_at program m pc ≡ Some (operation, next) → pc < next
+operation_at-next program m pc next operation e = (operation_in-next (code_at program m) pc next operation e).0
