@@ -1,4 +1,7 @@
 //! The parts of a class file (JVM Specification SE 8, 4.1 and 4.4).
+ghost use Rattle.std.specs.Prelude.{◌≡◌};
+ghost use Rattle.std.specs.Option.{option_copied};
+ghost use Rattle.class_read.specs.ClassGrammar.{entry_at, utf8_at, class_name_at};
 
 use crate::jo_ids::List;
 use crate::jo_text::Name;
@@ -75,4 +78,34 @@ pub struct RowInfo {
     pub end: u16,
     pub handler: u16,
     pub catch_type: u16,
+}
+
+/// The entry with that index.
+pub fn entry_at(pool: &[PoolEntry], index: u16) -> Option<&PoolEntry>
+    ensures { option_copied result ≡ entry_at pool.now index }
+{
+    if index == 0 {
+        return None;
+    }
+    pool.get(usize::from(index) - 1)
+}
+
+/// The text of the Utf8 entry with that index.
+pub fn utf8_at(pool: &[PoolEntry], index: u16) -> Option<&[u8]>
+    ensures { option_copied result ≡ utf8_at pool.now index }
+{
+    match entry_at(pool, index)? {
+        PoolEntry::Utf8(text) => Some(text.as_slice()),
+        _ => None,
+    }
+}
+
+/// The name of the Class entry with that index.
+pub fn class_name_at(pool: &[PoolEntry], index: u16) -> Option<&[u8]>
+    ensures { option_copied result ≡ class_name_at pool.now index }
+{
+    match entry_at(pool, index)? {
+        PoolEntry::Class(name) => utf8_at(pool, *name),
+        _ => None,
+    }
 }
