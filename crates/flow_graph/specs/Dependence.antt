@@ -1,6 +1,6 @@
 -- Data dependence and control dependence by paths of the flow graph. Control dependence is this project's own: a node with
 -- two different successors controls each node but Exit to which a path of at least one edge leads from it.
-use Rattle.std.specs.Prelude.{◌≡◌, ◌≢◌, ℕ}
+use Rattle.std.specs.Prelude.{◌≢◌, ℕ}
 use Rattle.jo_prog.specs.declared.program.Program.{Program}
 use Rattle.flow_graph.specs.declared.flow.Place.{Place}
 use Rattle.flow_graph.specs.declared.flow.NodeKind.{NodeKind}

@@ -1,6 +1,6 @@
 -- The flow graph of a method, by one rule an edge, and what its nodes read and write (this project's own), in its part
 -- for plain code: there the wide graph and the flow graph of an instance are one.
-use Rattle.std.specs.Prelude.{◌≡◌, ◌≢◌, ℕ, ◌+◌, ◌-◌, ◌<◌, Bool, true, false, List, [], ◌∷◌, Option, Some, None, Contains, option_and_then, option_map}
+use Rattle.std.specs.Prelude.{◌≡◌, ℕ, ◌+◌, ◌-◌, ◌<◌, Bool, true, false, List, [], ◌∷◌, Option, Some, None, Contains, option_map}
 use Rattle.class_read.specs.ClassGrammar.{has_flag, native_flag}
 use Rattle.class_read.specs.declared.jo_insn.Operation.{Operation}
 use Rattle.class_read.specs.declared.jo_insn.Operation.TheVariants.{Constant, Load, Store, Add, Subtract, InvokeStatic, Return, Other}
@@ -9,9 +9,9 @@ use Rattle.jo_prog.specs.declared.program.Method.{Method}
 use Rattle.jo_prog.specs.Program.{method_at, operation_at, callee_at}
 use Rattle.jo_prog.specs.Typing.{HasHeight, call_effect_of}
 use Rattle.flow_graph.specs.declared.flow.Place.{Place}
-use Rattle.flow_graph.specs.declared.flow.Place.TheVariants.{Local, Stack, Pending}
+use Rattle.flow_graph.specs.declared.flow.Place.TheVariants.{Local, Stack}
 use Rattle.flow_graph.specs.declared.flow.NodeKind.{NodeKind}
-use Rattle.flow_graph.specs.declared.flow.NodeKind.TheVariants.{Entry, Exit, Instr, Call, RetVal, Arg}
+use Rattle.flow_graph.specs.declared.flow.NodeKind.TheVariants.{Entry, Exit, Instr, Call, RetVal}
 
 -- the node at which a thread stands whose pc this is
 abbrev pub node_of : ℕ → Option (Operation × ℕ) → NodeKind

@@ -1,19 +1,18 @@
 -- The dependence graph of a program (after Horwitz, Reps and Binkley 1990; its nodes, edges and rules are this project's
 -- own), in its part for plain code: one instance, no object.
-use Rattle.std.specs.Prelude.{◌≡◌, ℕ, Bool, true, false, List, [], ◌∷◌, Option, Some, None}
-use Rattle.class_read.specs.declared.jo_insn.Operation.{Operation}
+use Rattle.std.specs.Prelude.{◌≡◌, ℕ, Bool, true, false, List, [], Option, Some, None}
 use Rattle.class_read.specs.declared.jo_insn.Operation.TheVariants.{Return}
 use Rattle.jo_prog.specs.declared.program.Program.{Program}
 use Rattle.jo_prog.specs.declared.labels.Label.{Label}
-use Rattle.jo_prog.specs.declared.labels.Label.TheVariants.{Source, Sink, Release}
+use Rattle.jo_prog.specs.declared.labels.Label.TheVariants.{Source, Sink}
 use Rattle.jo_prog.specs.declared.labels.Labels.{Labels}
 use Rattle.jo_prog.specs.Labels.{label_of}
 use Rattle.jo_prog.specs.Program.{operation_at, callee_at}
 use Rattle.flow_graph.specs.declared.flow.Place.{Place}
 use Rattle.flow_graph.specs.declared.flow.NodeKind.{NodeKind}
-use Rattle.flow_graph.specs.declared.flow.NodeKind.TheVariants.{Entry, Exit, Instr, Call, RetVal, Arg, Kind, Thrown}
+use Rattle.flow_graph.specs.declared.flow.NodeKind.TheVariants.{Instr, Call, RetVal, Arg, Kind, Thrown}
 use Rattle.flow_graph.specs.declared.dep_nodes.EdgeKind.{EdgeKind}
-use Rattle.flow_graph.specs.declared.dep_nodes.EdgeKind.TheVariants.{Data, Control, Out, Arg as ArgEdge, Call as CallEdge, Ret, Heap, Fork}
+use Rattle.flow_graph.specs.declared.dep_nodes.EdgeKind.TheVariants.{Data, Control, Out, Heap}
 use Rattle.flow_graph.specs.Flow.{IsFlowNode, Reads, ArgumentPlace}
 use Rattle.flow_graph.specs.Dependence.{Reaches, Controls}
 

@@ -1,5 +1,5 @@
 -- What a graph of the program, as a list of nodes and a list of edges, has to do with the dependence graph.
-use Rattle.std.specs.Prelude.{◌≡◌, ◌≢◌, ℕ, zero, suc, ◌^◌, ◌<◌, List, [], ◌∷◌, length, Option, Some, None, Contains, slice_get, option_map}
+use Rattle.std.specs.Prelude.{◌≡◌, ℕ, zero, suc, ◌^◌, ◌<◌, List, [], ◌∷◌, length, Option, Some, None, Contains, slice_get, option_map}
 use Rattle.jo_prog.specs.declared.program.Program.{Program}
 use Rattle.jo_prog.specs.declared.labels.Labels.{Labels}
 use Rattle.jo_prog.specs.Program.{callee_at}
@@ -10,12 +10,9 @@ use Rattle.flow_graph.specs.declared.dep_nodes.SiteList.{SiteList}
 use Rattle.flow_graph.specs.declared.dep_nodes.NodeName.{NodeName}
 use Rattle.flow_graph.specs.declared.dep_nodes.Edge.{Edge}
 use Rattle.flow_graph.specs.declared.dep_nodes.Step.{Step}
-use Rattle.flow_graph.specs.declared.dep_nodes.Word.{Word}
-use Rattle.flow_graph.specs.declared.dep_nodes.Word.TheVariants.{Edge as AnEdge, Pass}
-use Rattle.flow_graph.specs.declared.dep_nodes.Chain.{Chain}
+use Rattle.flow_graph.specs.declared.dep_nodes.Word.TheVariants.{Edge as AnEdge}
 use Rattle.flow_graph.specs.declared.dep_nodes.Graph.{Graph}
-use Rattle.flow_graph.specs.Graph.{Instance, Node, node, IsNode, DependenceEdge}
-use Rattle.flow_graph.specs.Chains.{Link, IsValidChain, end_of}
+use Rattle.flow_graph.specs.Graph.{Node, node, IsNode, DependenceEdge}
 
 -- the sites of a context, in order
 abbrev pub sites_of : SiteList → List ℕ

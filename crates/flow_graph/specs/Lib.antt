@@ -3,3 +3,4 @@ pub mod Dependence
 pub mod Graph
 pub mod Chains
 pub mod GraphData
+pub mod Slices

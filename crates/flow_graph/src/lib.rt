@@ -3,3 +3,4 @@
 
 pub mod dep_nodes;
 pub mod flow;
+pub mod slicer;

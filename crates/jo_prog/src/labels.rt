@@ -1,5 +1,8 @@
 //! The plain part of a policy: its levels, and a label for each native method.
 
+ghost use Rattle.std.specs.Prelude.{◌≡◌};
+ghost use Rattle.jo_prog.specs.Labels.{flows, flows_by, label_of, label_among};
+
 use class_read::jo_ids::{LevelId, List, MethodId};
 use class_read::jo_text::Name;
 
@@ -20,4 +23,40 @@ pub struct Labels {
     pub observers: List<LevelId>,
     pub entry: MethodId,
     pub labelled: List<(MethodId, Label)>,
+}
+
+/// Whether what is at level `a` may flow to level `b`, by the pairs of the policy.
+pub fn flows(labels: &Labels, a: LevelId, b: LevelId) -> bool
+    ensures { result ≡ flows labels.now a b }
+{
+    flows_by(labels.flows.as_slice(), a.number(), b.number())
+}
+
+fn flows_by(pairs: &[(u32, u32)], a: u32, b: u32) -> bool
+    ensures { result ≡ flows_by pairs.now a b }
+{
+    match pairs {
+        [] => a == b,
+        [(low, high), rest @ ..] => {
+            flows_by(rest, a, b) || (flows_by(rest, a, *low) && flows_by(rest, *high, b))
+        }
+    }
+}
+
+/// The label of a method, by the first item that names it.
+pub fn label_of(labels: &Labels, method: MethodId) -> Option<Label>
+    ensures { result ≡ label_of labels.now method }
+{
+    label_among(labels.labelled.as_slice(), method)
+}
+
+fn label_among(items: &[(MethodId, Label)], method: MethodId) -> Option<Label>
+    ensures { result ≡ label_among items.now method }
+{
+    for (named, label) in items {
+        if *named == method {
+            return Some(*label);
+        }
+    }
+    None
 }

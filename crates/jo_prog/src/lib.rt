@@ -2,5 +2,7 @@
 #![tactic(auto)]
 
 pub mod labels;
+pub mod laws;
+pub mod linker;
 pub mod program;
 pub mod runs;

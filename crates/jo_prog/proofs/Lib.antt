@@ -1,0 +1,3 @@
+pub mod Decoding
+pub mod Flows
+pub mod TypingPaths
