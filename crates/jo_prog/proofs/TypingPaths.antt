@@ -88,25 +88,28 @@ module _ (program : Program) (m : ℕ) (code : Code) where
   path_before start p below = absurd (omega arith)
   path_before {k = k} {pc = pc} {s = s} (on j q next r after path e f) p below =
       elim (cases_lt k j) [
-          inl less ↦
-          let earlier = path_before path p less in
-          let up = step-rises program m code q r after next e f in
-          record { after = earlier.after; next = earlier.next; typed = earlier.typed; leads = earlier.leads; rises = omega (arith, earlier.rises, up) }
+        | inl less ↦
+            let earlier = path_before path p less in
+            let up = step-rises program m code q r after next e f in
+            record { after = earlier.after; next = earlier.next; typed = earlier.typed; leads = earlier.leads; rises = omega (arith, earlier.rises, up) }
         | inr more ↦
-          let same_length : k ≡ j = omega arith in
-          let same = path_same (subst (λ (n : ℕ). Path program m code n pc s) same_length p) path in
-          let up = step-rises program m code q r after next e f in
-          record { after = after; next = next; typed = moved (typed_at program m code) pc q s r after same.0 same.1 e; leads = f; rises = omega (arith, same.0, up) } ]
+            let same_length : k ≡ j = omega arith in
+            let same = path_same (subst (λ (n : ℕ). Path program m code n pc s) same_length p) path in
+            let up = step-rises program m code q r after next e f in
+            record { after = after; next = next; typed = moved (typed_at program m code) pc q s r after same.0 same.1 e; leads = f; rises = omega (arith, same.0, up) }
+      ]
 
   -- paths that arrive at one pc have one shape
   path_one_shape : {j k pc : ℕ} {s t : Shape} → Path program m code j pc s → Path program m code k pc t → s ≡ t
   path_one_shape {j = j} {k = k} {pc = pc} {s = s} {t = t} p q =
       elim (cases_order j k) [
-          inl same ↦ (path_same (subst (λ (n : ℕ). Path program m code n pc s) same p) q).1
+        | inl same ↦ (path_same (subst (λ (n : ℕ). Path program m code n pc s) same p) q).1
         | inr other ↦
-          elim other [
-              inl less ↦ absurd (omega (arith, (path_before q p less).rises))
-            | inr more ↦ absurd (omega (arith, (path_before p q more).rises)) ] ]
+            elim other [
+              | inl less ↦ absurd (omega (arith, (path_before q p less).rises))
+              | inr more ↦ absurd (omega (arith, (path_before p q more).rises))
+            ]
+      ]
 
   -- typing paths arrive at each pc with one shape
   pub arrivals_same : {pc : ℕ} {s t : Shape} → Arrives program m code pc s → Arrives program m code pc t → s ≡ t
@@ -118,16 +121,18 @@ module _ (program : Program) (m : ℕ) (code : Code) where
   path_typed : {j k pc pd : ℕ} {s t : Shape} (after : After) → Path program m code j pc s → typed_at program m code pc s ≡ Some after → after.next ≡ None → Path program m code k pd t → IsSome (typed_at program m code pd t)
   path_typed {j = j} {k = k} {pc = pc} {pd = pd} {s = s} {t = t} after p e f q =
       elim (cases_order j k) [
-          inl same ↦
-          let one = path_same (subst (λ (n : ℕ). Path program m code n pc s) same p) q in
-          is_some_from _ after (moved (typed_at program m code) pd pc t s after (sym one.0) (sym one.1) e)
+        | inl same ↦
+            let one = path_same (subst (λ (n : ℕ). Path program m code n pc s) same p) q in
+            is_some_from _ after (moved (typed_at program m code) pd pc t s after (sym one.0) (sym one.1) e)
         | inr other ↦
-          elim other [
-              inl less ↦
-              let on_way = path_before q p less in
-              absurd (none-some on_way.next (sym f ∙ ap (λ (a : After). a.next) (same_Some after on_way.after (sym e ∙ on_way.typed)) ∙ on_way.leads))
-            | inr more ↦
-              let on_way = path_before p q more in is_some_from _ on_way.after on_way.typed ] ]
+            elim other [
+              | inl less ↦
+                  let on_way = path_before q p less in
+                  absurd (none-some on_way.next (sym f ∙ ap (λ (a : After). a.next) (same_Some after on_way.after (sym e ∙ on_way.typed)) ∙ on_way.leads))
+              | inr more ↦
+                  let on_way = path_before p q more in is_some_from _ on_way.after on_way.typed
+            ]
+      ]
 
   -- a path that ends without a fault is all there is, so the code is typed
   pub typed_from_end : {pc : ℕ} {s : Shape} (after : After) → Arrives program m code pc s → typed_at program m code pc s ≡ Some after → after.next ≡ None → IsTypedCode program m code

@@ -6,3 +6,4 @@ pub mod Values
 pub mod Machine
 pub mod Runs
 pub mod PlainCode
+pub mod IntShapes
