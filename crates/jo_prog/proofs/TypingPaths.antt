@@ -1,7 +1,7 @@
 -- Typing paths: code has no jumps here, so a path rises, and it arrives at each pc with one shape.
 use Rattle.std.proofs.Common.{◌≡◌, ℕ, zero, suc, ◌+◌, ◌<◌, ◌≤◌, Bool, true, false, ◌&&◌, nat_lt, nat_le, cond, List, length, Option, Some, None, refl, sym, ap, ◌∙◌, subst, inl, inr, arith}
 use Rattle.std.specs.Prelude.{IsSome, is_some, option_and_then, ◌⊎◌}
-use Rattle.std.proofs.lemmas.Bool.{cases_lt, cases_order}
+use Rattle.std.proofs.lemmas.Bool.{cases_lt, cases_order, cond-true, cond-false, and_from, and_left, and_right, lt-ltb, le-ltb, le-leb, lt-leb}
 use Rattle.std.proofs.lemmas.Option.{none-some, same_Some}
 use Rattle.class_read.specs.declared.jo_insn.Operation.{Operation}
 use Rattle.class_read.specs.declared.jo_insn.Operation.TheVariants.{Constant, Load, Store, Add, Subtract, InvokeStatic, Return, Other}
@@ -148,3 +148,46 @@ heights_same program m pc h k (code, s, found, arrives, is) (other, t, find, arr
     let one : code ≡ other = same_Some code other (sym found ∙ find) in
     let arrived = subst (λ (c : Code). Arrives program m c pc s) one arrives in
     sym is ∙ one_height program m other arrived arrive ∙ at
+
+-- ---- a step, from what is found at its pc
+
+module _ (program : Program) (m : ℕ) (code : Code) (pc next : ℕ) (operation : Operation) (callee : Option ℕ) (s : Shape)
+    (found : operation_at program m pc ≡ Some (operation, next)) (named : callee_at program m pc ≡ callee) where
+  typed_at-found : typed_at program m code pc s ≡ option_and_then (leads_on code operation next) (shape_after program callee operation s)
+  typed_at-found =
+      ap (λ (o : Option (Operation × ℕ)). typed_by program code (callee_at program m pc) o s) found
+          ∙ ap (λ (c : Option ℕ). option_and_then (leads_on code operation next) (shape_after program c operation s)) named
+
+  pub typed_at-fault : shape_after program callee operation s ≡ None → typed_at program m code pc s ≡ None
+  typed_at-fault e = typed_at-found ∙ ap (λ (o : Option Shape). option_and_then (leads_on code operation next) o) e
+
+  pub typed_at-leads : (t : Shape) → shape_after program callee operation s ≡ Some t → typed_at program m code pc s ≡ leads_on code operation next t
+  typed_at-leads t e = typed_at-found ∙ ap (λ (o : Option Shape). option_and_then (leads_on code operation next) o) e
+
+pub leads_on-return : (code : Code) (operation : Operation) (next : ℕ) (t : Shape) → operation ≡ Return → leads_on code operation next t ≡ Some (record { next = None; shape = t })
+leads_on-return code operation next t e = ap (λ (o : Operation). leads_on code o next t) e
+
+leads_on-goes : (code : Code) (operation : Operation) (next : ℕ) (t : Shape) → (operation ≡ Return → ⊥) → leads_on code operation next t ≡ goes_to code next t
+leads_on-goes code Return next t other = absurd (other refl)
+leads_on-goes code (Constant z) next t other = refl
+leads_on-goes code (Load k) next t other = refl
+leads_on-goes code (Store k) next t other = refl
+leads_on-goes code Add next t other = refl
+leads_on-goes code Subtract next t other = refl
+leads_on-goes code (InvokeStatic k) next t other = refl
+leads_on-goes code Other next t other = refl
+
+pub leads_on-next_pc : (code : Code) (operation : Operation) (next : ℕ) (t : Shape) → (operation ≡ Return → ⊥) → next < length code.bytes → length t.stack ≤ code.max_stack → leads_on code operation next t ≡ Some (record { next = Some next; shape = t })
+leads_on-next_pc code operation next t other inside low =
+    leads_on-goes code operation next t other
+        ∙ cond-true (nat_lt next (length code.bytes) && nat_le (length t.stack) code.max_stack) _ None (and_from _ _ (lt-ltb _ _ inside) (le-leb _ _ low))
+
+pub leads_on-outside : (code : Code) (operation : Operation) (next : ℕ) (t : Shape) → (operation ≡ Return → ⊥) → length code.bytes ≤ next → leads_on code operation next t ≡ None
+leads_on-outside code operation next t other outside =
+    leads_on-goes code operation next t other
+        ∙ cond-false (nat_lt next (length code.bytes) && nat_le (length t.stack) code.max_stack) _ None (and_left _ _ (le-ltb _ _ outside))
+
+pub leads_on-high : (code : Code) (operation : Operation) (next : ℕ) (t : Shape) → (operation ≡ Return → ⊥) → code.max_stack < length t.stack → leads_on code operation next t ≡ None
+leads_on-high code operation next t other high =
+    leads_on-goes code operation next t other
+        ∙ cond-false (nat_lt next (length code.bytes) && nat_le (length t.stack) code.max_stack) _ None (and_right _ _ (lt-leb _ _ high))
