@@ -2,7 +2,7 @@
 use Rattle.std.proofs.Common.{ap, sym, ◌∙◌, ◌≡◌, ℕ, ◌+◌, ◌<◌, ◌≤◌, Bool, true, false, cond, List, length, Option, Some, None, refl, arith, ltb}
 use Rattle.std.specs.Prelude.{option_map, slice_index}
 use Rattle.std.proofs.lemmas.Bool.{ltb-true}
-use Rattle.std.proofs.lemmas.Option.{none-some, cond_some, some_pair_parts}
+use Rattle.std.proofs.lemmas.Option.{none-some, some_pair_parts}
 use Rattle.class_read.specs.Opcodes.{operation_of, Operands, NoOperand, SignedByte, SignedShort, LocalByte, PoolShort, spelled_at, spelled_by, decoded, operands_of}
 use Rattle.class_read.specs.declared.jo_insn.Insn.{Insn}
 use Rattle.class_read.specs.declared.jo_insn.Insn.TheVariants.{Plain}

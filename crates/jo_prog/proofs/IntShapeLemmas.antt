@@ -1,5 +1,5 @@
 -- What the operations do to shapes whose places hold ints alone.
-use Rattle.std.proofs.Common.{◌≡◌, ℕ, zero, suc, ◌+◌, ◌-◌, ◌<◌, ◌≤◌, Bool, true, false, List, [], ◌∷◌, ◌++◌, length, map, replicate, set, Option, Some, None, refl, ap, sym, ◌∙◌, arith, ltb, cond}
+use Rattle.std.proofs.Common.{◌≡◌, ℕ, zero, suc, ◌+◌, ◌-◌, ◌<◌, ◌≤◌, Bool, true, false, List, ◌∷◌, length, map, replicate, set, Some, None, refl, ap, sym, ◌∙◌, arith, ltb}
 use Rattle.std.specs.Prelude.{option_map}
 use Rattle.std.proofs.lemmas.List.{map-set, length-map, replicate-append-replicate}
 use Rattle.std.proofs.lemmas.Bool.{lt-ltb, cond-true}
@@ -26,7 +26,7 @@ pub exchange-ints : (pops pushes h : ℕ) (locals : List Kind) → pops ≤ h �
 exchange-ints pops pushes h locals low =
     let s : Shape = record { locals = locals; stack = replicate h Int } in
     ap (λ o. option_map (λ stack. with_stack s (push_ints pushes stack)) o) (pop_ints-replicate pops h low)
-        ∙ ap (λ stack. Some (with_stack s stack)) (replicate-append-replicate pushes (h - pops) Int ∙ ap (λ n. replicate n Int) (omega arith))
+    ∙ ap (λ stack. Some (with_stack s stack)) (replicate-append-replicate pushes (h - pops) Int ∙ ap (λ n. replicate n Int) (omega arith))
 
 pub exchange-short : (pops pushes h : ℕ) (locals : List Kind) → h < pops → exchange pops pushes (record { locals = locals; stack = replicate h Int }) ≡ None
 exchange-short pops pushes h locals short =
@@ -39,5 +39,5 @@ stored-ints k zero is_set some inside = absurd (omega (arith, some))
 stored-ints k (suc h) is_set some inside =
     let low : h ≡ suc h - 1 = omega arith in
     cond-true (ltb k (length (map kind_of is_set))) _ None (lt-ltb k _ (omega (arith, length-map is_set kind_of, inside)))
-        ∙ ap (λ locals. Some (record { locals = locals; stack = replicate h Int })) (sym (map-set kind_of is_set k true))
-        ∙ ap (λ n. Some (record { locals = map kind_of (set is_set k true); stack = replicate n Int })) low
+    ∙ ap (λ locals. Some (record { locals = locals; stack = replicate h Int })) (sym (map-set kind_of is_set k true))
+    ∙ ap (λ n. Some (record { locals = map kind_of (set is_set k true); stack = replicate n Int })) low

@@ -1,14 +1,14 @@
 -- Typing paths: code has no jumps here, so a path rises, and it arrives at each pc with one shape.
-use Rattle.std.proofs.Common.{◌≡◌, ℕ, zero, suc, ◌+◌, ◌<◌, ◌≤◌, Bool, true, false, ◌&&◌, nat_lt, nat_le, cond, List, length, Option, Some, None, refl, sym, ap, ◌∙◌, subst, inl, inr, arith}
-use Rattle.std.specs.Prelude.{IsSome, is_some, option_and_then, ◌⊎◌}
-use Rattle.std.proofs.lemmas.Bool.{cases_lt, cases_order, cond-true, cond-false, and_from, and_left, and_right, lt-ltb, le-ltb, le-leb, lt-leb}
+use Rattle.std.proofs.Common.{◌≡◌, ℕ, suc, ◌<◌, ◌≤◌, Bool, true, false, ◌&&◌, nat_lt, nat_le, cond, length, Option, Some, None, refl, sym, ap, ◌∙◌, subst, inl, inr, arith}
+use Rattle.std.specs.Prelude.{IsSome, is_some, option_and_then}
+use Rattle.std.proofs.lemmas.Bool.{cases_lt, cases_order, cond-true, and_from, lt-ltb, le-leb}
 use Rattle.std.proofs.lemmas.Option.{none-some, same_Some}
 use Rattle.class_read.specs.declared.jo_insn.Operation.{Operation}
 use Rattle.class_read.specs.declared.jo_insn.Operation.TheVariants.{Constant, Load, Store, Add, Subtract, InvokeStatic, Return, Other}
 use Rattle.jo_prog.specs.declared.program.Program.{Program}
 use Rattle.jo_prog.specs.declared.program.Code.{Code}
-use Rattle.jo_prog.specs.Program.{code_at, operation_at, callee_at}
-use Rattle.jo_prog.specs.Typing.{Shape, After, shape_at_start, goes_to, shape_after, leads_on, typed_by, typed_at, Arrives, at_start, by_step, IsTypedCode, IsTyped, HasHeight}
+use Rattle.jo_prog.specs.Program.{operation_at, callee_at}
+use Rattle.jo_prog.specs.Typing.{Shape, After, shape_at_start, goes_to, shape_after, leads_on, typed_by, typed_at, Arrives, at_start, by_step, IsTypedCode, HasHeight}
 use Rattle.jo_prog.proofs.Decoding.{operation_at-next}
 
 -- ---- a step rises
@@ -156,10 +156,7 @@ module _ (program : Program) (m : ℕ) (code : Code) (pc next : ℕ) (operation 
   typed_at-found : typed_at program m code pc s ≡ option_and_then (leads_on code operation next) (shape_after program callee operation s)
   typed_at-found =
       ap (λ (o : Option (Operation × ℕ)). typed_by program code (callee_at program m pc) o s) found
-          ∙ ap (λ (c : Option ℕ). option_and_then (leads_on code operation next) (shape_after program c operation s)) named
-
-  pub typed_at-fault : shape_after program callee operation s ≡ None → typed_at program m code pc s ≡ None
-  typed_at-fault e = typed_at-found ∙ ap (λ (o : Option Shape). option_and_then (leads_on code operation next) o) e
+      ∙ ap (λ (c : Option ℕ). option_and_then (leads_on code operation next) (shape_after program c operation s)) named
 
   pub typed_at-leads : (t : Shape) → shape_after program callee operation s ≡ Some t → typed_at program m code pc s ≡ leads_on code operation next t
   typed_at-leads t e = typed_at-found ∙ ap (λ (o : Option Shape). option_and_then (leads_on code operation next) o) e
@@ -180,14 +177,4 @@ leads_on-goes code Other next t other = refl
 pub leads_on-next_pc : (code : Code) (operation : Operation) (next : ℕ) (t : Shape) → (operation ≡ Return → ⊥) → next < length code.bytes → length t.stack ≤ code.max_stack → leads_on code operation next t ≡ Some (record { next = Some next; shape = t })
 leads_on-next_pc code operation next t other inside low =
     leads_on-goes code operation next t other
-        ∙ cond-true (nat_lt next (length code.bytes) && nat_le (length t.stack) code.max_stack) _ None (and_from _ _ (lt-ltb _ _ inside) (le-leb _ _ low))
-
-pub leads_on-outside : (code : Code) (operation : Operation) (next : ℕ) (t : Shape) → (operation ≡ Return → ⊥) → length code.bytes ≤ next → leads_on code operation next t ≡ None
-leads_on-outside code operation next t other outside =
-    leads_on-goes code operation next t other
-        ∙ cond-false (nat_lt next (length code.bytes) && nat_le (length t.stack) code.max_stack) _ None (and_left _ _ (le-ltb _ _ outside))
-
-pub leads_on-high : (code : Code) (operation : Operation) (next : ℕ) (t : Shape) → (operation ≡ Return → ⊥) → code.max_stack < length t.stack → leads_on code operation next t ≡ None
-leads_on-high code operation next t other high =
-    leads_on-goes code operation next t other
-        ∙ cond-false (nat_lt next (length code.bytes) && nat_le (length t.stack) code.max_stack) _ None (and_right _ _ (lt-leb _ _ high))
+    ∙ cond-true (nat_lt next (length code.bytes) && nat_le (length t.stack) code.max_stack) _ None (and_from _ _ (lt-ltb _ _ inside) (le-leb _ _ low))

@@ -1,5 +1,5 @@
 -- Shapes whose places hold ints alone.
-use Rattle.std.specs.Prelude.{Bool, true, false, List, map, replicate}
+use Rattle.std.specs.Prelude.{Bool, true, false, map, replicate}
 use Rattle.jo_prog.specs.declared.jvm_typing.IntShape.{IntShape}
 use Rattle.jo_prog.specs.Typing.{Kind, Int, Unset, Shape}
 

@@ -7,3 +7,4 @@ pub mod Machine
 pub mod Runs
 pub mod PlainCode
 pub mod IntShapes
+pub mod Worked

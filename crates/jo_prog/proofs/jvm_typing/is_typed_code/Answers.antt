@@ -1,12 +1,9 @@
-use Rattle.std.proofs.Common.{◌≡◌, ℕ, ◌<◌, ◌≤◌, Bool, cond, true, List, length, Option, Some, None, replicate, refl, sym, ap, ◌∙◌, subst, arith}
+use Rattle.std.proofs.Common.{◌≡◌, ℕ, ◌<◌, ◌≤◌, cond, List, length, Some, None, refl, sym, ap, ◌∙◌, subst, arith}
 use Rattle.std.proofs.lemmas.List.{length-replicate}
-use Rattle.class_read.specs.declared.jo_insn.Operation.{Operation}
-use Rattle.class_read.specs.declared.jo_insn.Operation.TheVariants.{Return}
-use Rattle.jo_prog.specs.Program.{operation_at, callee_at}
-use Rattle.jo_prog.specs.Typing.{Int, Shape, After, shape_after, leads_on, typed_at, Arrives, at_start, by_step}
+use Rattle.jo_prog.specs.Typing.{Int, Shape, After, leads_on, typed_at, Arrives, at_start, by_step}
 use Rattle.jo_prog.specs.IntShapes.{shape_of}
 use Rattle.jo_prog.proofs.Decoding.{operation_at-code, callee_at-found}
-use Rattle.jo_prog.proofs.TypingPaths.{typed_from_end, typed_at-fault, typed_at-leads, leads_on-return, leads_on-next_pc, leads_on-outside, leads_on-high}
+use Rattle.jo_prog.proofs.TypingPaths.{typed_from_end, typed_at-leads, leads_on-return, leads_on-next_pc}
 use Rattle.jo_prog.proofs.jvm_typing.is_typed_code.Goals as goal
 use Rattle.jo_prog.proofs.jvm_typing.is_typed_code.Goals.{Else-not-apply}
 
@@ -37,9 +34,10 @@ returns-in-Return c =
     let step = (goal.at.returns-in-Return c).Else-not-apply in
     let t = shape_of c.apply.new.self in
     let ends = leads_on-return c.args.code.now c.in-Some.operation c.in-Some.next t c.in-Return.is in
-    let after : After = record { next = None; shape = t } in
-    ( λ _. typed_from_end c.args.program.now c.args.method c.args.code.now after c.loop-operation.invariant.arrives (typed step ∙ ends) refl,
-      λ _. refl )
+    let after : After = record { next = None; shape = t } in (
+      λ _. typed_from_end c.args.program.now c.args.method c.args.code.now after c.loop-operation.invariant.arrives (typed step ∙ ends) refl,
+      λ _. refl,
+    )
 
 pub loop-operation-preserved : goal.loop-operation-preserved
 loop-operation-preserved c =

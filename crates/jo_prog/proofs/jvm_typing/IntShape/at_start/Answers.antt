@@ -1,4 +1,4 @@
-use Rattle.std.proofs.Common.{◌≡◌, ℕ, Bool, false, List, [], map, replicate, ap, ◌∙◌}
+use Rattle.std.proofs.Common.{[], map, replicate, ap, ◌∙◌}
 use Rattle.jo_prog.specs.Typing.{Unset, Shape}
 use Rattle.jo_prog.specs.IntShapes.{kind_of}
 use Rattle.jo_prog.proofs.IntShapeLemmas.{map-kind_of-replicate}
