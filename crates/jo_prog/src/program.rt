@@ -88,7 +88,7 @@ pub enum Operand {
     Member(MemberRef),
 }
 
-fn method_at(program: &Program, method: MethodId) -> Option<&Method>
+pub(crate) fn method_at(program: &Program, method: MethodId) -> Option<&Method>
     ensures { option_copied result ≡ method_at program.now method }
 {
     program.methods.as_slice().get(method.number() as usize)
