@@ -1,6 +1,7 @@
 //! The program `joana`.
 #![tactic(auto)]
 
+mod spelling;
 mod status;
 
 fn main() {}
