@@ -1,6 +1,7 @@
 //! The program `joana`.
 #![tactic(auto)]
 
+mod jo_policy;
 mod spelling;
 mod status;
 
