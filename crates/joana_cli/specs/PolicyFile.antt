@@ -1,13 +1,13 @@
 -- The policy as a function of the TOML tree of its file (this project's own), in its part on small policies: no other keys
 -- than `levels`, `flows`, `entry`, `sources` and `sinks`, one or two levels, and at most one pair of flows. Where the file
 -- has a fault, there is none.
-use Rattle.std.specs.Prelude.{ℕ, suc, Bool, true, false, ◌&&◌, not, ◌==◌, if◌then◌else◌, List, [], ◌∷◌, length, Option, Some, None, is_some, is_none, option_and_then, option_map, codes}
+use Rattle.std.specs.Prelude.{◌≡◌, ℕ, zero, suc, Bool, true, false, ◌&&◌, ◌||◌, not, nat_le, ◌==◌, if◌then◌else◌, List, [], ◌∷◌, length, map, Option, Some, None, is_some, is_none, option_and_then, option_map, codes}
 use Rattle.std.specs.List.{list_any}
 use Rattle.std.specs.Str.{bytes_eq}
-use Rattle.toml.specs.Data.{Data, Items, no_items, item, Members, no_members, member, get_member, as_str, as_array, as_table}
+use Rattle.toml.specs.Data.{Data, string, integer, float, boolean, datetime, array, table, Items, no_items, item, Members, no_members, member, get_member, as_str, as_array, as_table}
 use Rattle.class_read.specs.ClassGrammar.{has_flag, static_flag, native_flag}
 use Rattle.jo_prog.specs.declared.labels.Label.{Label}
-use Rattle.jo_prog.specs.declared.labels.Label.TheVariants.{Source, Sink}
+use Rattle.jo_prog.specs.declared.labels.Label.TheVariants.{Source, Sink, Release}
 use Rattle.jo_prog.specs.declared.labels.Labels.{Labels}
 use Rattle.jo_prog.specs.declared.program.Program.{Program}
 use Rattle.jo_prog.specs.declared.program.Method.{Method}
@@ -51,14 +51,14 @@ where_holds holds x = if holds then Some x else None
 abbrev pub levels_of : Option Data → Option (List (List ℕ))
 levels_of value = option_and_then (λ names. where_holds (are_few_levels names) names) (texts_of value)
 
--- the number of the first level with a name, where the levels have numbers from a first one on
-abbrev pub level_from : ℕ → List (List ℕ) → List ℕ → Option ℕ
-level_from first [] name = None
-level_from first (level ∷ levels) name = if bytes_eq level name then Some first else level_from (suc first) levels name
+-- the number of the first name that is a text, where the names have numbers from a first one on
+abbrev pub place_from : ℕ → List (List ℕ) → List ℕ → Option ℕ
+place_from first [] text = None
+place_from first (name ∷ names) text = if bytes_eq name text then Some first else place_from (suc first) names text
 
 -- the level that a text names
 abbrev pub level_named : List (List ℕ) → Option Data → Option ℕ
-level_named levels value = option_and_then (level_from 0 levels) (option_and_then as_str value)
+level_named levels value = option_and_then (place_from 0 levels) (option_and_then as_str value)
 
 -- a pair of levels, the first flows to the second
 abbrev pub pair_of : List (List ℕ) → Items → Option (ℕ × ℕ)
@@ -77,14 +77,13 @@ flows_of levels (Some value) = option_and_then (pairs_of levels) (as_array value
 
 -- ---- methods
 
--- the number of the first method with a spelling, where the methods have numbers from a first one on
-abbrev pub method_from : Program → ℕ → List Method → List ℕ → Option ℕ
-method_from program first [] text = None
-method_from program first (m ∷ ms) text = if bytes_eq (spelled_in program (Some m)) text then Some first else method_from program (suc first) ms text
+-- the spellings of a program's methods, in their order
+abbrev pub spellings_of : Program → List (List ℕ)
+spellings_of program = map (λ (m : Method). spelled_in program (Some m)) program.methods
 
 -- the method that a text spells: of two with one spelling the first
-abbrev pub method_named : Program → List ℕ → Option ℕ
-method_named program text = method_from program 0 program.methods text
+abbrev pub method_named : List (List ℕ) → List ℕ → Option ℕ
+method_named spellings text = place_from 0 spellings text
 
 abbrev pub is_entry : Method → Bool
 is_entry m = has_flag static_flag m.flags && (is_some m.code && bytes_eq m.desc (codes "()V"))
@@ -95,7 +94,7 @@ entry_with m (Some method) = if is_entry method then Some m else None
 
 -- the entry that a text spells
 abbrev pub entry_of : Program → Option Data → Option ℕ
-entry_of program value = option_and_then (λ m. entry_with m (method_at program m)) (option_and_then (method_named program) (option_and_then as_str value))
+entry_of program value = option_and_then (λ m. entry_with m (method_at program m)) (option_and_then (method_named (spellings_of program)) (option_and_then as_str value))
 
 -- ---- labels
 
@@ -105,10 +104,10 @@ table_of None = Some no_members
 table_of (Some value) = as_table value
 
 -- each key of a table spells a method and gives it a level
-abbrev pub labels_are_good : Program → List (List ℕ) → Members → Bool
-labels_are_good program levels no_members = true
-labels_are_good program levels (member key value rest) =
-    is_some (method_named program key) && (is_some (level_named levels (Some value)) && labels_are_good program levels rest)
+abbrev pub labels_are_good : List (List ℕ) → List (List ℕ) → Members → Bool
+labels_are_good spellings levels no_members = true
+labels_are_good spellings levels (member key value rest) =
+    is_some (method_named spellings key) && (is_some (level_named levels (Some value)) && labels_are_good spellings levels rest)
 
 -- no key of the first table stands in the second
 abbrev pub are_apart : Members → Members → Bool
@@ -125,9 +124,9 @@ label_in levels sources sinks text = first_label (level_named levels (get_member
     first_label None None = None
 
 -- a spelling's label goes to the first method that is spelled so
-abbrev pub label_for : Program → List (List ℕ) → Members → Members → ℕ → List ℕ → Option Label
-label_for program levels sources sinks number text =
-    if is_number number (method_named program text) then label_in levels sources sinks text else None
+abbrev pub label_for : List (List ℕ) → List (List ℕ) → Members → Members → ℕ → List ℕ → Option Label
+label_for spellings levels sources sinks number text =
+    if is_number number (method_named spellings text) then label_in levels sources sinks text else None
   where
     is_number : ℕ → Option ℕ → Bool
     is_number n None = false
@@ -137,11 +136,11 @@ abbrev pub with_label : ℕ → Option Label → List (ℕ × Label) → List (�
 with_label number None items = items
 with_label number (Some label) items = (number, label) ∷ items
 
--- the labelled methods in order, where the methods have numbers from a first one on
-abbrev pub labelled_from : Program → List (List ℕ) → Members → Members → ℕ → List Method → List (ℕ × Label)
-labelled_from program levels sources sinks first [] = []
-labelled_from program levels sources sinks first (m ∷ ms) =
-    with_label first (label_for program levels sources sinks first (spelled_in program (Some m))) (labelled_from program levels sources sinks (suc first) ms)
+-- the labelled methods in order, by the spellings of those whose numbers begin with a first one
+abbrev pub labelled_from : List (List ℕ) → List (List ℕ) → Members → Members → ℕ → List (List ℕ) → List (ℕ × Label)
+labelled_from spellings levels sources sinks first [] = []
+labelled_from spellings levels sources sinks first (text ∷ texts) =
+    with_label first (label_for spellings levels sources sinks first text) (labelled_from spellings levels sources sinks (suc first) texts)
 
 -- a method without a label isn't native, and one with a label is a static native of its shape
 abbrev pub fits_label : Method → Option Label → Bool
@@ -152,6 +151,13 @@ abbrev pub labels_fit_from : List (ℕ × Label) → ℕ → List Method → Boo
 labels_fit_from labelled first [] = true
 labels_fit_from labelled first (m ∷ ms) = fits_label m (label_among labelled first) && labels_fit_from labelled (suc first) ms
 
+-- the labelled methods, where the tables have no fault
+abbrev pub labelled_of : List (List ℕ) → List (List ℕ) → Option Members → Option Members → Option (List (ℕ × Label))
+labelled_of spellings levels (Some sources) (Some sinks) =
+    where_holds (labels_are_good spellings levels sources && (labels_are_good spellings levels sinks && are_apart sources sinks))
+    (labelled_from spellings levels sources sinks 0 spellings)
+labelled_of spellings levels _ _ = None
+
 -- ---- the policy
 
 abbrev pub labels_with : Program → List (List ℕ) → List (ℕ × ℕ) → ℕ → List (ℕ × Label) → Option Labels
@@ -159,21 +165,16 @@ labels_with program levels pairs entry labelled =
     where_holds (labels_fit_from labelled 0 program.methods)
     (record { levels = levels; flows = pairs; observers = count_from 0 (length levels); entry = entry; labelled = labelled })
 
-abbrev pub labels_by : Program → List (List ℕ) → List (ℕ × ℕ) → ℕ → Members → Members → Option Labels
-labels_by program levels pairs entry sources sinks =
-    if labels_are_good program levels sources && (labels_are_good program levels sinks && are_apart sources sinks)
-    then labels_with program levels pairs entry (labelled_from program levels sources sinks 0 program.methods)
-    else None
+-- the labels that the parts of a policy give to a program, where no part has a fault
+abbrev pub labels_by : Program → List (List ℕ) → Option (List (ℕ × ℕ)) → Option ℕ → Option (List (ℕ × Label)) → Option Labels
+labels_by program levels (Some pairs) (Some entry) (Some labelled) = labels_with program levels pairs entry labelled
+labels_by program levels _ _ _ = None
 
--- the labels that the five values give to a program
-abbrev pub labels_from : Program → Option (List (List ℕ)) → (List (List ℕ) → Option (List (ℕ × ℕ))) → Option ℕ → Option Members → Option Members → Option Labels
-labels_from program (Some levels) flows (Some entry) (Some sources) (Some sinks) = option_and_then (λ pairs. labels_by program levels pairs entry sources sinks) (flows levels)
-labels_from program _ flows _ _ _ = None
+abbrev pub labels_from : Members → Program → Option (List (List ℕ)) → Option Labels
+labels_from tree program None = None
+labels_from tree program (Some levels) = labels_by program levels (flows_of levels (get_member (codes "flows") tree)) (entry_of program (get_member (codes "entry") tree))
+    (labelled_of (spellings_of program) levels (table_of (get_member (codes "sources") tree)) (table_of (get_member (codes "sinks") tree)))
 
 -- the labels that a small policy's tree gives to a program, where it is one and has no fault
 unfoldable pub policy_of : Members → Program → Option Labels
-policy_of tree program =
-    if keys_are_known tree
-    then labels_from program (levels_of (get_member (codes "levels") tree)) (λ levels. flows_of levels (get_member (codes "flows") tree))
-    (entry_of program (get_member (codes "entry") tree)) (table_of (get_member (codes "sources") tree)) (table_of (get_member (codes "sinks") tree))
-    else None
+policy_of tree program = if keys_are_known tree then labels_from tree program (levels_of (get_member (codes "levels") tree)) else None

@@ -3,6 +3,8 @@
 
 mod check;
 mod input;
+mod jo_policy;
+mod spelling;
 mod status;
 mod top;
 mod words;
