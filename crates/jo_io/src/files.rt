@@ -37,6 +37,7 @@ impl From<AllocError> for FileFault {
     }
 }
 
+/// Named files that are read whole.
 pub trait Files {
     /// The bytes under a name, `None` where the implementation leaves them untold.
     ghost held: { Self → List ℕ → Option (List ℕ) };

@@ -1,8 +1,7 @@
 // Files in memory.
-ghost use Rattle.std.specs.Prelude.{◌≡◌, ◌≤◌, List, ℕ, IfOk, IfSome, map, [], option_map, option_copied, MatchOption};
-ghost use Rattle.jo_io.specs.Counts.{next_count};
+ghost use Rattle.std.specs.Prelude.{◌≡◌, ◌≤◌, List, ℕ, IfOk, IfSome, map, [], option_copied};
 ghost use Rattle.jo_io.specs.Files.{Rose, UnlessFailed, OnFailed};
-ghost use Rattle.jo_io.specs.MemoryFiles.{StoredFiles, pair_of, bytes_under, is_to_fail, ReadEnds};
+ghost use Rattle.jo_io.specs.MemoryFiles.{pair_of, bytes_under, ReadEnds};
 
 use crate::numbers::is_listed;
 use crate::{FileFault, Files};

@@ -1,5 +1,5 @@
 // A sink in memory.
-ghost use Rattle.std.specs.Prelude.{◌≡◌, ◌+◌, ◌≤◌, List, ℕ, [], ◌++◌, length, vec_len, vec_capacity, IfOk, OnOk, OnErr, Some};
+ghost use Rattle.std.specs.Prelude.{◌≡◌, ◌+◌, ◌≤◌, [], ◌++◌, length, vec_len, vec_capacity, IfOk, OnOk, OnErr, Some};
 ghost use Rattle.jo_io.specs.MemorySink.{PutEnds};
 ghost use Rattle.jo_io.specs.Sink.{Rose, Extends, ExtendsByPrefix};
 

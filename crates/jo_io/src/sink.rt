@@ -19,7 +19,7 @@ impl fmt::Display for Failed {
 
 impl Error for Failed {}
 
-/// A sink that takes nothing of a piece that isn't empty has failed.
+/// Where bytes go. A sink that takes nothing of a piece that isn't empty has failed.
 pub trait Sink {
     /// All bytes taken so far, `None` where the implementation leaves them untold.
     ghost given: { Self → Option (List ℕ) };

@@ -1,8 +1,7 @@
 // The files of the host.
-ghost use Rattle.std.specs.Prelude.{◌≡◌, ◌≤◌, List, ℕ, Option, None, [], IfOk, IfSome};
-ghost use Rattle.jo_io.specs.Counts.{next_count};
+ghost use Rattle.std.specs.Prelude.{◌≡◌, ◌≤◌, Option, None, [], IfOk, IfSome};
 ghost use Rattle.jo_io.specs.Files.{Rose, UnlessFailed, OnFailed};
-ghost use Rattle.jo_io.specs.StdFiles.{HostFiles, ReadLeaves};
+ghost use Rattle.jo_io.specs.StdFiles.{ReadLeaves};
 
 use crate::{FileFault, Files};
 use std::alloc::Global;
@@ -17,6 +16,8 @@ const PIECE: usize = 8192;
 const MAX_TURNS: u32 = 70_000_000;
 
 /// The files of the host, over its runtime. Nothing is told of what they hold.
+///
+/// A read goes to the end of the file, and fails where that is not reached in 70,000,000 turns of at least a byte.
 #[derive(Drop)]
 pub struct StdFiles<R> {
     rt: R,

@@ -1,8 +1,8 @@
 // The streams of the host.
-ghost use Rattle.std.specs.Prelude.{◌≡◌, ◌≤◌, ℕ, None, OnOk, OnErr};
+ghost use Rattle.std.specs.Prelude.{◌≡◌, ◌≤◌, None, OnOk, OnErr};
 ghost use Rattle.std.specs.Io.KnownBytes.{Appends};
 ghost use Rattle.jo_io.specs.Counts.{next_count};
-ghost use Rattle.jo_io.specs.Sink.{Rose, Extends, ExtendsByPrefix};
+ghost use Rattle.jo_io.specs.Sink.{Rose};
 
 use crate::{Failed, Sink};
 use std::io;

@@ -1,6 +1,5 @@
 // A sink that never fails.
-ghost use Rattle.std.specs.Prelude.{◌≡◌, ◌+◌, ◌-◌, ◌^◌, ◌≤◌, ℕ, min, length, OnOk, OnErr, IsOk, None};
-ghost use Rattle.jo_io.specs.Sink.{Rose, Extends, ExtendsByPrefix};
+ghost use Rattle.std.specs.Prelude.{◌≡◌, ◌+◌, ◌-◌, ◌^◌, ℕ, min, length, IsOk, None};
 
 use crate::{Failed, Sink};
 use std::marker::Model;

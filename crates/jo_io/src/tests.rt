@@ -1,5 +1,5 @@
 // What no clause says, and that a caller which knows only the traits learns enough.
-ghost use Rattle.std.specs.Prelude.{◌≡◌, ◌++◌, List, ℕ, OnOk, IsErrOf, Some};
+ghost use Rattle.std.specs.Prelude.{◌≡◌, List, ℕ, OnOk, IsErrOf, Some};
 ghost use Rattle.jo_io.specs.Files.{Rose, OnFailed, UnlessFailed};
 ghost use Rattle.jo_io.specs.Sink.{Extends};
 

@@ -1,0 +1,3 @@
+-- Lemmas for callers.
+pub mod Faults
+pub mod Puts
