@@ -39,3 +39,8 @@ abbrev pub chain_text : Program → Labels → ℕ → Node → List Link → Li
 chain_text program labels observer from links =
     line (codes "joana report 1") ++ line (codes "refused chain") ++ line (codes "observer " ++ level_name labels observer)
     ++ line (codes "from " ++ spelled_node program from) ++ flat_map (step_line program) links ++ line (codes "end")
+
+-- the line of a step, where there is one
+abbrev pub step_text : Program → Option Link → List ℕ
+step_text program None = []
+step_text program (Some link) = step_line program link

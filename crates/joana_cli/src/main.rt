@@ -1,6 +1,7 @@
 //! The program `joana`.
 #![tactic(auto)]
 
+mod chain_report;
 mod check;
 mod input;
 mod jo_policy;
