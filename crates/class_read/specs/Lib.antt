@@ -3,3 +3,4 @@ pub mod Text
 pub mod TextScan
 pub mod Opcodes
 pub mod ClassGrammar
+pub mod Reading

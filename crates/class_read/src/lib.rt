@@ -8,3 +8,4 @@ pub mod class_pool;
 pub mod jo_ids;
 pub mod jo_insn;
 pub mod jo_text;
+mod reader;
