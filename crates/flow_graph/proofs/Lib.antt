@@ -1,1 +1,2 @@
+pub mod ChainWalks
 pub mod SlicerLemmas
