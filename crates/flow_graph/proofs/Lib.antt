@@ -1,2 +1,3 @@
 pub mod ChainWalks
 pub mod SlicerLemmas
+pub mod PlainLine
