@@ -1,1 +1,4 @@
+pub mod ChainWalks
 pub mod SlicerLemmas
+pub mod PlainLine
+pub mod PlainReaching

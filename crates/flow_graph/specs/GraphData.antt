@@ -1,5 +1,5 @@
 -- What a graph of the program, as a list of nodes and a list of edges, has to do with the dependence graph.
-use Rattle.std.specs.Prelude.{◌≡◌, ℕ, zero, suc, ◌^◌, ◌<◌, List, [], ◌∷◌, length, Option, Some, None, Contains, slice_get, option_map}
+use Rattle.std.specs.Prelude.{◌≡◌, ℕ, zero, suc, ◌^◌, ◌<◌, List, [], ◌∷◌, length, Option, Some, None, Contains, slice_get, option_map, filter_map}
 use Rattle.jo_prog.specs.declared.program.Program.{Program}
 use Rattle.jo_prog.specs.declared.labels.Labels.{Labels}
 use Rattle.jo_prog.specs.Program.{callee_at}
@@ -10,8 +10,10 @@ use Rattle.flow_graph.specs.declared.dep_nodes.SiteList.{SiteList}
 use Rattle.flow_graph.specs.declared.dep_nodes.NodeName.{NodeName}
 use Rattle.flow_graph.specs.declared.dep_nodes.Edge.{Edge}
 use Rattle.flow_graph.specs.declared.dep_nodes.Step.{Step}
-use Rattle.flow_graph.specs.declared.dep_nodes.Word.TheVariants.{Edge as AnEdge}
+use Rattle.flow_graph.specs.declared.dep_nodes.Word.{Word}
+use Rattle.flow_graph.specs.declared.dep_nodes.Word.TheVariants.{Edge as AnEdge, Pass}
 use Rattle.flow_graph.specs.declared.dep_nodes.Graph.{Graph}
+use Rattle.flow_graph.specs.Chains.{Link}
 use Rattle.flow_graph.specs.Graph.{Node, node, IsNode, DependenceEdge}
 
 -- the sites of a context, in order
@@ -70,3 +72,18 @@ walk_end from (step ∷ steps) = walk_end step.to steps
 -- some walk leads from a node to one of the criteria
 abbrev pub WalksTo : Graph → List ℕ → ℕ → Type 0
 WalksTo graph criteria from = (steps : List Step) × IsWalk graph from steps × Contains criteria (walk_end from steps)
+
+-- ---- chains of a graph, by the nodes
+
+-- the link of a step, along an edge to a node of the graph
+abbrev pub link_with : Word → Option Node → Option Link
+link_with (AnEdge kind) (Some n) = Some (record { word = kind; to = n })
+link_with (AnEdge kind) None = None
+link_with Pass n = None
+
+abbrev pub link_of : Graph → Step → Option Link
+link_of graph step = link_with step.word (graph_node graph step.to)
+
+-- the links of the steps
+abbrev pub links_of : Graph → List Step → List Link
+links_of graph steps = filter_map (link_of graph) steps

@@ -3,4 +3,5 @@
 
 pub mod dep_nodes;
 pub mod flow;
+pub mod laws;
 pub mod slicer;

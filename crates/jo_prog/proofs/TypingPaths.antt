@@ -34,7 +34,7 @@ led-next : (code : Code) (operation : Operation) (next : ℕ) (o : Option Shape)
 led-next code operation next None after then e f = absurd (none-some _ e)
 led-next code operation next (Some s) after then e f = leads_on-next code operation next s after then e f
 
-typed_by-next : (program : Program) (code : Code) (callee : Option ℕ) (found : Option (Operation × ℕ)) (s : Shape) (after : After) (then : ℕ) → typed_by program code callee found s ≡ Some after → after.next ≡ Some then → (operation : Operation) × (found ≡ Some (operation, then))
+pub typed_by-next : (program : Program) (code : Code) (callee : Option ℕ) (found : Option (Operation × ℕ)) (s : Shape) (after : After) (then : ℕ) → typed_by program code callee found s ≡ Some after → after.next ≡ Some then → (operation : Operation) × (found ≡ Some (operation, then))
 typed_by-next program code callee None s after then e f = absurd (none-some _ e)
 typed_by-next program code callee (Some (operation, next)) s after then e f =
     (operation, ap (λ (n : ℕ). Some (operation, n)) (sym (led-next code operation next (shape_after program callee operation s) after then e f)))

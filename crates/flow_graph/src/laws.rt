@@ -1,0 +1,29 @@
+//! What the definitions say together.
+ghost use Rattle.std.specs.Prelude.{◌≡◌, ◌↔◌, ℕ, List as Items, [], ◌∷◌};
+ghost use Rattle.jo_prog.specs.declared.program.Program.{Program};
+ghost use Rattle.jo_prog.specs.declared.labels.Labels.{Labels};
+ghost use Rattle.flow_graph.specs.declared.dep_nodes.Step.{Step};
+ghost use Rattle.flow_graph.specs.declared.dep_nodes.Graph.{Graph};
+ghost use Rattle.flow_graph.specs.Graph.{Node};
+ghost use Rattle.flow_graph.specs.Chains.{IsValidChain, HasChain, end_of};
+ghost use Rattle.flow_graph.specs.GraphData.{graph_node, IsDependenceGraph, IsWalk, walk_end, WalksTo, links_of};
+
+/// A valid chain leads from one node to another exactly where a walk of the graph does.
+pub fn chains_are_walks()
+    ensures { (program : Program) (labels : Labels) (graph : Graph) (i j : ℕ) (a b : Node)
+        → IsDependenceGraph program labels graph
+        → graph_node graph i ≡ Some a → graph_node graph j ≡ Some b
+        → HasChain program labels a b ↔ WalksTo graph (j ∷ []) i }
+{
+}
+
+/// The links of a walk are a valid chain to the node at its end.
+pub fn walks_are_chains()
+    ensures valid { (program : Program) (labels : Labels) (graph : Graph) (i : ℕ) (a : Node) (steps : Items Step)
+        → IsDependenceGraph program labels graph → graph_node graph i ≡ Some a → IsWalk graph i steps
+        → IsValidChain program labels a (links_of graph steps) }
+    ensures end { (program : Program) (labels : Labels) (graph : Graph) (i : ℕ) (a : Node) (steps : Items Step)
+        → IsDependenceGraph program labels graph → graph_node graph i ≡ Some a → IsWalk graph i steps
+        → graph_node graph (walk_end i steps) ≡ Some (end_of a (links_of graph steps)) }
+{
+}
