@@ -1,10 +1,9 @@
 //! Tests that code is plain, and that it is typed (JVM Specification SE 8, 4.10; its form by paths is this project's own).
-ghost use Rattle.std.specs.Prelude.{◌≡◌, ◌↔◌, ◌+◌, ◌<◌, ◌≤◌, ◌^◌, ◌&&◌, nat_lt, nat_le, slice_get, if◌then◌else◌, length, Some, None, IfSome, IfOk, IsTrue};
-ghost use Rattle.class_read.specs.declared.jo_insn.Operation.TheVariants.{Return};
+ghost use Rattle.std.specs.Prelude.{◌≡◌, ◌↔◌, ◌+◌, ◌<◌, ◌≤◌, ◌^◌, slice_get, if◌then◌else◌, length, Some, None, IfSome, IfOk, IsTrue};
 ghost use Rattle.jo_prog.specs.declared.program.Code.{Code};
 ghost use Rattle.jo_prog.specs.Program.{code_at};
 ghost use Rattle.jo_prog.specs.Typing.{shape_at_start, call_effect, call_effect_of, exchange, shape_after, IsTyped, IsTypedCode, loaded, stored};
-ghost use Rattle.jo_prog.specs.PlainCode.{is_source_or_sink, calls_labelled, goes_on, IsPlainFrom};
+ghost use Rattle.jo_prog.specs.PlainCode.{calls_labelled, goes_on, IsPlainFrom};
 ghost use Rattle.jo_prog.specs.IntShapes.{shape_of};
 
 use crate::labels::{Label, Labels, label_of};
