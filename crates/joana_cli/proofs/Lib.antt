@@ -1,1 +1,2 @@
 pub mod PolicyReads
+pub mod PolicySteps
