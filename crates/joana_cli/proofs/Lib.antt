@@ -1,3 +1,4 @@
 pub mod Answering
 pub mod PolicyReads
+pub mod PolicySteps
 pub mod Reading
