@@ -2,3 +2,4 @@ pub mod Answering
 pub mod PolicyReads
 pub mod PolicySteps
 pub mod Reading
+pub mod ReportLines

@@ -1,9 +1,9 @@
 //! Reports on illegal chains.
-ghost use Rattle.std.specs.Prelude.{◌≡◌, ◌++◌, ◌∷◌, [], Some, OnOk, IfOk, codes};
+ghost use Rattle.std.specs.Prelude.{◌≡◌, ◌++◌, Some, OnOk, IfOk, option_map};
 ghost use Rattle.std.specs.List.{flat_map};
 ghost use Rattle.flow_graph.specs.Graph.{Node};
-ghost use Rattle.flow_graph.specs.GraphData.{graph_node, link_of, links_of};
-ghost use Rattle.joana_cli.specs.Report.{chain_text, level_name, spelled_word, line, step_line, step_text};
+ghost use Rattle.flow_graph.specs.GraphData.{graph_node, link_of, links_of, node_named};
+ghost use Rattle.joana_cli.specs.Report.{chain_text, level_name, spelled_word, step_line, step_text};
 ghost use Rattle.joana_cli.specs.Spelling.{spelled_node};
 
 use crate::spelling;
@@ -39,7 +39,9 @@ fn push_level(out: &mut Vec<u8>, labels: &Labels, level: LevelId) -> Result<(), 
 }
 
 /// The name of a node by its number.
-fn node_name(graph: &Graph, node: NodeId) -> Option<&NodeName> {
+fn node_name(graph: &Graph, node: NodeId) -> Option<&NodeName>
+    ensures { option_map (λ name. node_named name.now) result ≡ graph_node graph.now node }
+{
     graph.nodes.as_slice().get(node.number() as usize)
 }
 
