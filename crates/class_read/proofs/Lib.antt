@@ -1,3 +1,4 @@
+pub mod CodeLemmas
 pub mod Many
 pub mod NameSteps
 pub mod TextLemmas

@@ -4,3 +4,4 @@ pub mod TextScan
 pub mod Opcodes
 pub mod ClassGrammar
 pub mod Reading
+pub mod Fitting

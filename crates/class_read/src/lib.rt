@@ -4,6 +4,7 @@
 //! things, names, instructions, and the parts of a class file.
 #![tactic(auto)]
 
+mod checks;
 pub mod class_pool;
 pub mod jo_ids;
 pub mod jo_insn;
