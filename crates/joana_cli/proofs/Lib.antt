@@ -1,2 +1,4 @@
 pub mod PolicyReads
 pub mod PolicySteps
+pub mod PolicyParts
+pub mod PolicyLabels
