@@ -498,6 +498,7 @@ pub fn read_policy(alloc: Global, text: &[u8], program: &Program) -> Result<Opti
 mod tests {
     use super::*;
     use crate::spelling::tests::program;
+    use std::process::Abort;
     use std::test::Fail;
 
     const LEVELS: &str = "levels = [\"low\", \"high\"]";
@@ -518,15 +519,25 @@ mod tests {
         }
     }
 
+    // The program has five methods, which is few enough.
+    fn read(
+        rt: &impl Abort,
+        alloc: Global,
+        text: &[u8],
+        program: &Program,
+    ) -> Result<Option<Labels>, Memory> {
+        assert_eq!(rt; program.methods.as_slice().len(), 5);
+        read_policy(alloc, text, program)
+    }
+
     #[test]
     fn a_small_policy_is_read(rt: HostRuntime) -> Result<(), Fail> {
         let alloc = rt.alloc();
         let program = program(alloc)?;
-        assert_eq!(rt; program.methods.as_slice().len(), 5);
         let text = format!(in alloc;
             "{LEVELS}\n{FLOWS}\n{ENTRY}\n[sources]\n{SOURCES}\n[sinks]\n{SINKS}\n"
         )?;
-        let labels = read_policy(alloc, text.as_bytes(), &program)?.ok_or("no policy")?;
+        let labels = read(&rt, alloc, text.as_bytes(), &program)?.ok_or("no policy")?;
         assert_eq!(rt; labels.levels.as_slice().len(), 2);
         assert_eq!(rt; labels.flows.as_slice(), [(0u32, 1u32)].as_slice());
         assert_eq!(rt; labels.observers.as_slice().len(), 2);
@@ -546,7 +557,6 @@ mod tests {
     fn a_policy_with_a_fault_is_none(rt: HostRuntime) -> Result<(), Fail> {
         let alloc = rt.alloc();
         let program = program(alloc)?;
-        assert_eq!(rt; program.methods.as_slice().len(), 5);
         for (fault, levels, flows, entry, sources, sinks) in [
             (
                 "three levels",
@@ -628,12 +638,12 @@ mod tests {
                 "{levels}\n{flows}\n{entry}\n[sources]\n{sources}\n[sinks]\n{sinks}\n"
             )?;
             assert!(rt;
-                read_policy(alloc, text.as_bytes(), &program)?.is_none(),
+                read(&rt, alloc, text.as_bytes(), &program)?.is_none(),
                 "{fault}"
             );
         }
         assert!(rt;
-            read_policy(alloc, b"levels = [\"\xff\"]".as_slice(), &program)?.is_none(),
+            read(&rt, alloc, b"levels = [\"\xff\"]".as_slice(), &program)?.is_none(),
             "no UTF-8"
         );
         Ok(())
