@@ -1,4 +1,6 @@
 pub mod Answering
+pub mod PolicyLabels
+pub mod PolicyParts
 pub mod PolicyReads
 pub mod PolicySteps
 pub mod Reading

@@ -1,5 +1,5 @@
 -- What a tree gives where one of its parts has a fault, and where none has.
-use Rattle.std.proofs.Common.{◌≡◌, ℕ, ◌+◌, ◌-◌, ◌<◌, suc, true, false, List, [], ◌∷◌, Option, Some, None, codes, refl, sym, arith, add-one}
+use Rattle.std.proofs.Common.{◌≡◌, ℕ, ◌+◌, ◌-◌, ◌<◌, suc, true, false, List, ◌∷◌, Option, Some, None, codes, refl, arith, add-one}
 use Rattle.toml.specs.Data.{Members, get_member}
 use Rattle.jo_prog.specs.declared.labels.Label.{Label}
 use Rattle.jo_prog.specs.declared.program.Program.{Program}

@@ -8,3 +8,4 @@ pub mod FirstForm
 pub mod Outcome
 pub mod Input
 pub mod Decision
+pub mod Sides

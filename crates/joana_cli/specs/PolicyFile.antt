@@ -1,13 +1,13 @@
 -- The policy as a function of the TOML tree of its file (this project's own), in its part on small policies: no other keys
 -- than `levels`, `flows`, `entry`, `sources` and `sinks`, one or two levels, and at most one pair of flows. Where the file
 -- has a fault, there is none.
-use Rattle.std.specs.Prelude.{◌≡◌, ℕ, zero, suc, Bool, true, false, ◌&&◌, ◌||◌, not, nat_le, ◌==◌, if◌then◌else◌, List, [], ◌∷◌, length, map, Option, Some, None, is_some, is_none, option_and_then, option_map, codes}
+use Rattle.std.specs.Prelude.{ℕ, suc, Bool, true, false, ◌&&◌, not, ◌==◌, if◌then◌else◌, List, [], ◌∷◌, length, map, Option, Some, None, is_some, is_none, option_and_then, option_map, codes}
 use Rattle.std.specs.List.{list_any}
 use Rattle.std.specs.Str.{bytes_eq}
-use Rattle.toml.specs.Data.{Data, string, integer, float, boolean, datetime, array, table, Items, no_items, item, Members, no_members, member, get_member, as_str, as_array, as_table}
+use Rattle.toml.specs.Data.{Data, Items, no_items, item, Members, no_members, member, get_member, as_str, as_array, as_table}
 use Rattle.class_read.specs.ClassGrammar.{has_flag, static_flag, native_flag}
 use Rattle.jo_prog.specs.declared.labels.Label.{Label}
-use Rattle.jo_prog.specs.declared.labels.Label.TheVariants.{Source, Sink, Release}
+use Rattle.jo_prog.specs.declared.labels.Label.TheVariants.{Source, Sink}
 use Rattle.jo_prog.specs.declared.labels.Labels.{Labels}
 use Rattle.jo_prog.specs.declared.program.Program.{Program}
 use Rattle.jo_prog.specs.declared.program.Method.{Method}
@@ -114,14 +114,15 @@ abbrev pub are_apart : Members → Members → Bool
 are_apart no_members sinks = true
 are_apart (member key value rest) sinks = is_none (get_member key sinks) && are_apart rest sinks
 
+-- a source's level, or else a sink's
+abbrev pub first_label : Option ℕ → Option ℕ → Option Label
+first_label (Some level) sink = Some (Source level)
+first_label None (Some level) = Some (Sink level)
+first_label None None = None
+
 -- the label that the tables give to a spelling
 abbrev pub label_in : List (List ℕ) → Members → Members → List ℕ → Option Label
 label_in levels sources sinks text = first_label (level_named levels (get_member text sources)) (level_named levels (get_member text sinks))
-  where
-    first_label : Option ℕ → Option ℕ → Option Label
-    first_label (Some level) sink = Some (Source level)
-    first_label None (Some level) = Some (Sink level)
-    first_label None None = None
 
 -- a spelling's label goes to the first method that is spelled so
 abbrev pub label_for : List (List ℕ) → List (List ℕ) → Members → Members → ℕ → List ℕ → Option Label

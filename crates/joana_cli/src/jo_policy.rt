@@ -8,7 +8,7 @@ ghost use Rattle.toml.specs.Parse.{parse_document};
 ghost use Rattle.class_read.specs.ClassGrammar.{has_flag as is_set};
 ghost use Rattle.jo_prog.specs.Labels.{label_among as first_label_of};
 ghost use Rattle.jo_prog.specs.Linking.{count_from};
-ghost use Rattle.jo_prog.specs.PlainCode.{desc_for as shape_of};
+ghost use Rattle.jo_prog.specs.PlainCode.{desc_for as shape_of, IsWellLabelled};
 ghost use Rattle.jo_prog.specs.Program.{method_at};
 ghost use Rattle.joana_cli.specs.PolicyFile.{known_keys, keys_are_known as all_known, texts_in, are_few_levels as are_few, levels_of, place_from, level_named as named_level, pair_of, pairs_of, flows_of, spellings_of, is_entry as can_enter, entry_with, entry_of, table_of, labels_are_good as all_good, are_apart as all_apart, label_in as label_by, label_for as label_given, labelled_from, fits_label as fits_it, labels_fit_from, labelled_of, labels_with, policy_of};
 
@@ -485,10 +485,167 @@ pub fn read_policy(alloc: Global, text: &[u8], program: &Program) -> Result<Opti
     requires { length program.now.methods < 2 ^ 32 }
     ensures labels { IfOk result (λ found. IfSome found (λ labels. IsUtf8 text.now × ((tree : Members) × (parse_document text.now ≡ Some tree) × (policy_of tree program.now ≡ Some labels)))) }
     ensures none { IfOk result (λ found. IfNone found ((tree : Members) → IsUtf8 text.now → parse_document text.now ≡ Some tree → policy_of tree program.now ≡ None)) }
+    ensures well_labelled { IfOk result (λ found. IfSome found (IsWellLabelled program.now)) }
 {
     match toml::table_from_slice(alloc, text) {
         Ok(tree) => read_tree(alloc, &tree, program),
         Err(fault) if fault.is_memory() => Err(AllocError),
         Err(_) => Ok(None),
+    }
+}
+
+#[cfg(test)]
+mod tests {
+    use super::*;
+    use crate::spelling::tests::program;
+    use std::process::Abort;
+    use std::test::Fail;
+
+    const LEVELS: &str = "levels = [\"low\", \"high\"]";
+
+    const FLOWS: &str = "flows = [[\"low\", \"high\"]]";
+
+    const ENTRY: &str = "entry = \"Main.main()V\"";
+
+    const SOURCES: &str = "\"Main.secret()I\" = \"high\"\n\"Main.get()I\" = \"low\"";
+
+    const SINKS: &str = "\"Main.show(I)V\" = \"low\"";
+
+    fn plain(item: &(MethodId, Label)) -> (u32, &'static str, u32) {
+        match item.1 {
+            Label::Source(level) => (item.0.number(), "source", level.number()),
+            Label::Sink(level) => (item.0.number(), "sink", level.number()),
+            Label::Release { from, to: _ } => (item.0.number(), "release", from.number()),
+        }
+    }
+
+    // The program has five methods, which is few enough.
+    fn read(
+        rt: &impl Abort,
+        alloc: Global,
+        text: &[u8],
+        program: &Program,
+    ) -> Result<Option<Labels>, Memory> {
+        assert_eq!(rt; program.methods.as_slice().len(), 5);
+        read_policy(alloc, text, program)
+    }
+
+    #[test]
+    fn a_small_policy_is_read(rt: HostRuntime) -> Result<(), Fail> {
+        let alloc = rt.alloc();
+        let program = program(alloc)?;
+        let text = format!(in alloc;
+            "{LEVELS}\n{FLOWS}\n{ENTRY}\n[sources]\n{SOURCES}\n[sinks]\n{SINKS}\n"
+        )?;
+        let labels = read(&rt, alloc, text.as_bytes(), &program)?.ok_or("no policy")?;
+        assert_eq!(rt; labels.levels.as_slice().len(), 2);
+        assert_eq!(rt; labels.flows.as_slice(), [(0u32, 1u32)].as_slice());
+        assert_eq!(rt; labels.observers.as_slice().len(), 2);
+        assert_eq!(rt; labels.entry.number(), 3);
+        let wanted = [(0u32, "source", 1u32), (1, "source", 0), (2, "sink", 0)];
+        assert_eq!(rt; labels.labelled.as_slice().len(), wanted.len());
+        for (item, wanted) in labels.labelled.as_slice().iter().zip(wanted.iter()) {
+            let (number, word, level) = plain(item);
+            assert_eq!(rt; number, wanted.0);
+            assert_eq!(rt; word, wanted.1);
+            assert_eq!(rt; level, wanted.2);
+        }
+        Ok(())
+    }
+
+    #[test]
+    fn a_policy_with_a_fault_is_none(rt: HostRuntime) -> Result<(), Fail> {
+        let alloc = rt.alloc();
+        let program = program(alloc)?;
+        for (fault, levels, flows, entry, sources, sinks) in [
+            (
+                "three levels",
+                "levels = [\"low\", \"high\", \"mid\"]",
+                FLOWS,
+                ENTRY,
+                SOURCES,
+                SINKS,
+            ),
+            (
+                "two flows",
+                LEVELS,
+                "flows = [[\"low\", \"high\"], [\"high\", \"low\"]]",
+                ENTRY,
+                SOURCES,
+                SINKS,
+            ),
+            (
+                "an unknown key",
+                LEVELS,
+                "flows = []\nreleases = []",
+                ENTRY,
+                SOURCES,
+                SINKS,
+            ),
+            ("no levels", "levels = []", "flows = []", ENTRY, "", ""),
+            (
+                "a level twice",
+                "levels = [\"low\", \"low\"]",
+                "flows = []",
+                ENTRY,
+                "\"Main.secret()I\" = \"low\"\n\"Main.get()I\" = \"low\"",
+                SINKS,
+            ),
+            (
+                "an unknown level",
+                LEVELS,
+                FLOWS,
+                ENTRY,
+                "\"Main.secret()I\" = \"top\"\n\"Main.get()I\" = \"low\"",
+                SINKS,
+            ),
+            (
+                "a missing method",
+                LEVELS,
+                FLOWS,
+                ENTRY,
+                SOURCES,
+                "\"Main.show(I)V\" = \"low\"\n\"Main.none(I)V\" = \"low\"",
+            ),
+            (
+                "a method in both tables",
+                LEVELS,
+                FLOWS,
+                ENTRY,
+                SOURCES,
+                "\"Main.show(I)V\" = \"low\"\n\"Main.get()I\" = \"low\"",
+            ),
+            (
+                "a sink with a result",
+                LEVELS,
+                FLOWS,
+                ENTRY,
+                "\"Main.secret()I\" = \"high\"",
+                "\"Main.show(I)V\" = \"low\"\n\"Main.get()I\" = \"low\"",
+            ),
+            ("an unlabelled native", LEVELS, FLOWS, ENTRY, SOURCES, ""),
+            (
+                "an entry that is native",
+                LEVELS,
+                FLOWS,
+                "entry = \"Main.get()I\"",
+                SOURCES,
+                SINKS,
+            ),
+            ("no TOML", "levels = [", FLOWS, ENTRY, SOURCES, SINKS),
+        ] {
+            let text = format!(in alloc;
+                "{levels}\n{flows}\n{entry}\n[sources]\n{sources}\n[sinks]\n{sinks}\n"
+            )?;
+            assert!(rt;
+                read(&rt, alloc, text.as_bytes(), &program)?.is_none(),
+                "{fault}"
+            );
+        }
+        assert!(rt;
+            read(&rt, alloc, b"levels = [\"\xff\"]".as_slice(), &program)?.is_none(),
+            "no UTF-8"
+        );
+        Ok(())
     }
 }

@@ -155,3 +155,113 @@ pub fn push_node(
     out.extend_from_slice(b" [] ")?;
     push_kind(alloc, out, name.kind)
 }
+
+#[cfg(test)]
+pub mod tests {
+    use super::*;
+    use class_read::jo_ids::{Id, List};
+    use class_read::jo_text::Name;
+    use flow_graph::dep_nodes::SiteList;
+    use jo_prog::program::Code;
+    use std::test::Fail;
+
+    fn name(alloc: Global, text: &str) -> Result<Name, Memory> {
+        let mut name = Name::new(alloc);
+        name.append(text.as_bytes())?;
+        Ok(name)
+    }
+
+    fn class(alloc: Global, text: &str) -> Result<Class, Memory> {
+        Ok(Class {
+            name: name(alloc, text)?,
+            flags: 0x0021,
+            superclass: None,
+            interfaces: List::new(alloc),
+            fields: List::new(alloc),
+            methods: List::new(alloc),
+            operands: List::new(alloc),
+        })
+    }
+
+    fn native(alloc: Global, text: &str, desc: &str) -> Result<Method, Memory> {
+        Ok(Method {
+            class: Id::of(1),
+            name: name(alloc, text)?,
+            desc: name(alloc, desc)?,
+            flags: 0x0108,
+            code: None,
+        })
+    }
+
+    // Object, and Main with three natives, main and a method that needs escapes.
+    pub fn program(alloc: Global) -> Result<Program, Fail> {
+        let mut classes = List::new(alloc);
+        classes
+            .push(class(alloc, "java/lang/Object")?)
+            .map_err(|(_, e)| e)?;
+        classes.push(class(alloc, "Main")?).map_err(|(_, e)| e)?;
+        let mut methods = List::new(alloc);
+        for (text, desc) in [("secret", "()I"), ("get", "()I"), ("show", "(I)V")] {
+            methods
+                .push(native(alloc, text, desc)?)
+                .map_err(|(_, e)| e)?;
+        }
+        for text in ["main", "50% off, really"] {
+            let code = Code {
+                max_stack: 0,
+                max_locals: 0,
+                bytes: Name::new(alloc),
+                rows: List::new(alloc),
+            };
+            let method = Method {
+                class: Id::of(1),
+                name: name(alloc, text)?,
+                desc: name(alloc, "()V")?,
+                flags: 0x0008,
+                code: Some(code),
+            };
+            methods.push(method).map_err(|(_, e)| e)?;
+        }
+        Ok(Program {
+            classes,
+            fields: List::new(alloc),
+            methods,
+        })
+    }
+
+    #[test]
+    fn methods_and_nodes_are_spelled(rt: HostRuntime) -> Result<(), Fail> {
+        let alloc = rt.alloc();
+        let program = program(alloc)?;
+        for (number, wanted) in [
+            (2, "Main.show(I)V"),
+            (4, "Main.50%25%20off%2C%20really()V"),
+            (9, ""),
+        ] {
+            let text = spell_method(alloc, &program, Id::of(number))?;
+            assert_eq!(rt; text.as_slice(), wanted.as_bytes(), "method {number}");
+        }
+        for (kind, wanted) in [
+            (NodeKind::Entry, "Main.main()V [] entry"),
+            (NodeKind::Exit, "Main.main()V [] "),
+            (NodeKind::RetVal(30), "Main.main()V [] retval 30"),
+            (NodeKind::Arg(7, 0), "Main.main()V [] arg 7 0"),
+            (NodeKind::Thrown, "Main.main()V [] thrown"),
+        ] {
+            let name = NodeName {
+                method: Id::of(3),
+                sites: SiteList {
+                    len: 0,
+                    first: Id::of(0),
+                    second: Id::of(0),
+                },
+                kind,
+                resolved: None,
+            };
+            let mut text = Vec::new(alloc);
+            push_node(alloc, &mut text, &program, &name)?;
+            assert_eq!(rt; text.as_slice(), wanted.as_bytes());
+        }
+        Ok(())
+    }
+}

@@ -1,7 +1,7 @@
 use Rattle.std.proofs.Common.{◌≡◌, ◌∙◌, sym, Some, None, codes, true, false}
 use Rattle.toml.specs.Data.{get_member}
 use Rattle.toml.specs.View.{table_view}
-use Rattle.joana_cli.specs.PolicyFile.{keys_are_known, flows_of, entry_of, table_of, labelled_of, spellings_of}
+use Rattle.joana_cli.specs.PolicyFile.{keys_are_known, flows_of, table_of, labelled_of, spellings_of}
 use Rattle.joana_cli.proofs.PolicySteps.{HasLevels, policy_of-unknown, policy_of-no_levels, policy_of-no_flows, policy_of-no_entry, policy_of-no_labelled, policy_of-parts}
 use Rattle.joana_cli.proofs.jo_policy.read_tree.Goals as goal
 
@@ -36,7 +36,7 @@ returns-in_default-3 c =
     let same : c.as_slice-4.result.now ≡ c.in-Some.levels = cc in
     let spelled : c.as_slice-3.result.now ≡ spellings_of c.args.program.now = cc c.in_ok-spellings.ensures in
     let labelled : None ≡ labelled_of (spellings_of c.args.program.now) c.in-Some.levels (table_of (get_member (codes "sources") (table_view c.args.tree.now)))
-        (table_of (get_member (codes "sinks") (table_view c.args.tree.now))) = rw (← same, ← spelled) (sym c.in_default-3.is ∙ c.in_ok-labelled.ensures) in
+    (table_of (get_member (codes "sinks") (table_view c.args.tree.now))) = rw (← same, ← spelled) (sym c.in_default-3.is ∙ c.in_ok-labelled.ensures) in
     policy_of-no_labelled (table_view c.args.tree.now) c.args.program.now c.in-Some.levels levels labelled
 
 pub returns : goal.returns
@@ -48,5 +48,5 @@ returns c =
     let same : c.as_slice-4.result.now ≡ c.in-Some.levels = cc in
     let spelled : c.as_slice-3.result.now ≡ spellings_of c.args.program.now = cc c.in_ok-spellings.ensures in
     let labelled : Some c.in-Some-3.labelled ≡ labelled_of (spellings_of c.args.program.now) c.in-Some.levels (table_of (get_member (codes "sources") (table_view c.args.tree.now)))
-        (table_of (get_member (codes "sinks") (table_view c.args.tree.now))) = rw (← same, ← spelled) (sym c.in-Some-3.is ∙ c.in_ok-labelled.ensures) in
+    (table_of (get_member (codes "sinks") (table_view c.args.tree.now))) = rw (← same, ← spelled) (sym c.in-Some-3.is ∙ c.in_ok-labelled.ensures) in
     rw (policy_of-parts (table_view c.args.tree.now) c.args.program.now c.in-Some.levels c.in-Some-2.flows c.in-Some-read_entry.entry c.in-Some-3.labelled levels flows c.in-Some-read_entry.ensures labelled) c.label_program.ensures

@@ -1,4 +1,4 @@
-use Rattle.std.proofs.Common.{◌≡◌, List, ℕ, map, take, Some}
+use Rattle.std.proofs.Common.{◌≡◌, map, take, Some}
 use Rattle.jo_prog.specs.declared.program.Method.{Method}
 use Rattle.joana_cli.specs.Spelling.{spelled_in}
 use Rattle.joana_cli.proofs.jo_policy.spell_methods.Given as goal

@@ -1,4 +1,4 @@
-use Rattle.std.proofs.Common.{◌≡◌, List, String, Global, sym, ◌∙◌, true, false, string_bytes}
+use Rattle.std.proofs.Common.{◌≡◌, sym, ◌∙◌, true, false, string_bytes}
 use Rattle.std.specs.Map.Iter.{deref_pair}
 use Rattle.std.specs.Str.{bytes_eq}
 use Rattle.std.proofs.lemmas.Map.Iter.{rest_more}
