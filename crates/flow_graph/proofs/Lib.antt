@@ -2,3 +2,4 @@ pub mod ChainWalks
 pub mod SlicerLemmas
 pub mod PlainLine
 pub mod PlainReaching
+pub mod BuildingLemmas
