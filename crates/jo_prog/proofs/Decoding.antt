@@ -1,15 +1,15 @@
 -- Decoding rises: the next pc is above the pc, and not beyond the end of the code.
-use Rattle.std.proofs.Common.{ap, ◌≡◌, ℕ, ◌+◌, ◌<◌, ◌≤◌, Bool, true, false, cond, List, length, Option, Some, None, refl, arith, ltb}
+use Rattle.std.proofs.Common.{ap, sym, ◌∙◌, ◌≡◌, ℕ, ◌+◌, ◌<◌, ◌≤◌, Bool, true, false, cond, List, length, Option, Some, None, refl, arith, ltb}
 use Rattle.std.specs.Prelude.{option_map, slice_index}
 use Rattle.std.proofs.lemmas.Bool.{ltb-true}
-use Rattle.std.proofs.lemmas.Option.{none-some, cond_some, some_pair_parts}
+use Rattle.std.proofs.lemmas.Option.{none-some, some_pair_parts}
 use Rattle.class_read.specs.Opcodes.{operation_of, Operands, NoOperand, SignedByte, SignedShort, LocalByte, PoolShort, spelled_at, spelled_by, decoded, operands_of}
 use Rattle.class_read.specs.declared.jo_insn.Insn.{Insn}
 use Rattle.class_read.specs.declared.jo_insn.Insn.TheVariants.{Plain}
 use Rattle.class_read.specs.declared.jo_insn.Operation.{Operation}
 use Rattle.jo_prog.specs.declared.program.Program.{Program}
 use Rattle.jo_prog.specs.declared.program.Code.{Code}
-use Rattle.jo_prog.specs.Program.{as_operation, code_at, operation_in, operation_at}
+use Rattle.jo_prog.specs.Program.{as_operation, code_at, operation_in, operation_at, callee_of, callee_at}
 
 -- what is known of the next pc
 pub record IsNext (code : List ℕ) (pc next : ℕ) : Type 0 where
@@ -67,3 +67,10 @@ operation_in-next (Some code) pc next operation e =
 -- decoding rises
 pub operation_at-next : (program : Program) (m pc next : ℕ) (operation : Operation) → operation_at program m pc ≡ Some (operation, next) → pc < next
 operation_at-next program m pc next operation e = (operation_in-next (code_at program m) pc next operation e).0
+
+-- the operation and the callee at a pc, where the code is known
+pub operation_at-code : (program : Program) (m pc : ℕ) (code : Code) (found : Option (Operation × ℕ)) → code_at program m ≡ Some code → found ≡ option_map as_operation (decoded code.bytes pc) → operation_at program m pc ≡ found
+operation_at-code program m pc code found here e = ap (λ (c : Option Code). operation_in c pc) here ∙ sym e
+
+pub callee_at-found : (program : Program) (m pc : ℕ) (found : Option (Operation × ℕ)) → operation_at program m pc ≡ found → callee_at program m pc ≡ callee_of program m found
+callee_at-found program m pc found e = ap (λ (o : Option (Operation × ℕ)). callee_of program m o) e

@@ -1,6 +1,5 @@
 -- `flows_by` is the reflexive and transitive closure of its pairs.
-use Rattle.std.proofs.Common.{◌≡◌, ℕ, zero, suc, ◌+◌, ◌<◌, Bool, true, false, ◌&&◌, ◌||◌, ◌==◌, List, [], ◌∷◌, length, get_or, refl, sym, subst, arith, eqb, inl, inr, ⊎_elim, ap}
-use Rattle.std.specs.Prelude.{Contains, ◌⊎◌}
+use Rattle.std.proofs.Common.{◌≡◌, ℕ, zero, suc, ◌<◌, true, ◌&&◌, List, [], ◌∷◌, length, get_or, refl, sym, subst, arith, inl, inr, ap}
 use Rattle.std.proofs.lemmas.Bool.{eqb-true, eq-eqb, or_cases, or_left, or_right, and_parts, and_from}
 use Rattle.jo_prog.specs.Labels.{flows_by, FlowsAlong, stays, goes}
 

@@ -1,3 +1,5 @@
 pub mod Decoding
 pub mod Flows
+pub mod IntShapeLemmas
+pub mod PlainPaths
 pub mod TypingPaths

@@ -1,14 +1,14 @@
 -- Typing paths: code has no jumps here, so a path rises, and it arrives at each pc with one shape.
-use Rattle.std.proofs.Common.{◌≡◌, ℕ, zero, suc, ◌+◌, ◌<◌, ◌≤◌, Bool, true, false, ◌&&◌, nat_lt, nat_le, cond, List, length, Option, Some, None, refl, sym, ap, ◌∙◌, subst, inl, inr, arith}
-use Rattle.std.specs.Prelude.{IsSome, is_some, option_and_then, ◌⊎◌}
-use Rattle.std.proofs.lemmas.Bool.{cases_lt, cases_order}
+use Rattle.std.proofs.Common.{◌≡◌, ℕ, suc, ◌<◌, ◌≤◌, Bool, true, false, ◌&&◌, nat_lt, nat_le, cond, length, Option, Some, None, refl, sym, ap, ◌∙◌, subst, inl, inr, arith}
+use Rattle.std.specs.Prelude.{IsSome, is_some, option_and_then}
+use Rattle.std.proofs.lemmas.Bool.{cases_lt, cases_order, cond-true, and_from, lt-ltb, le-leb}
 use Rattle.std.proofs.lemmas.Option.{none-some, same_Some}
 use Rattle.class_read.specs.declared.jo_insn.Operation.{Operation}
 use Rattle.class_read.specs.declared.jo_insn.Operation.TheVariants.{Constant, Load, Store, Add, Subtract, InvokeStatic, Return, Other}
 use Rattle.jo_prog.specs.declared.program.Program.{Program}
 use Rattle.jo_prog.specs.declared.program.Code.{Code}
-use Rattle.jo_prog.specs.Program.{code_at, operation_at, callee_at}
-use Rattle.jo_prog.specs.Typing.{Shape, After, shape_at_start, goes_to, shape_after, leads_on, typed_by, typed_at, Arrives, at_start, by_step, IsTypedCode, IsTyped, HasHeight}
+use Rattle.jo_prog.specs.Program.{operation_at, callee_at}
+use Rattle.jo_prog.specs.Typing.{Shape, After, shape_at_start, goes_to, shape_after, leads_on, typed_by, typed_at, Arrives, at_start, by_step, IsTypedCode, HasHeight}
 use Rattle.jo_prog.proofs.Decoding.{operation_at-next}
 
 -- ---- a step rises
@@ -88,25 +88,28 @@ module _ (program : Program) (m : ℕ) (code : Code) where
   path_before start p below = absurd (omega arith)
   path_before {k = k} {pc = pc} {s = s} (on j q next r after path e f) p below =
       elim (cases_lt k j) [
-          inl less ↦
-          let earlier = path_before path p less in
-          let up = step-rises program m code q r after next e f in
-          record { after = earlier.after; next = earlier.next; typed = earlier.typed; leads = earlier.leads; rises = omega (arith, earlier.rises, up) }
+        | inl less ↦
+            let earlier = path_before path p less in
+            let up = step-rises program m code q r after next e f in
+            record { after = earlier.after; next = earlier.next; typed = earlier.typed; leads = earlier.leads; rises = omega (arith, earlier.rises, up) }
         | inr more ↦
-          let same_length : k ≡ j = omega arith in
-          let same = path_same (subst (λ (n : ℕ). Path program m code n pc s) same_length p) path in
-          let up = step-rises program m code q r after next e f in
-          record { after = after; next = next; typed = moved (typed_at program m code) pc q s r after same.0 same.1 e; leads = f; rises = omega (arith, same.0, up) } ]
+            let same_length : k ≡ j = omega arith in
+            let same = path_same (subst (λ (n : ℕ). Path program m code n pc s) same_length p) path in
+            let up = step-rises program m code q r after next e f in
+            record { after = after; next = next; typed = moved (typed_at program m code) pc q s r after same.0 same.1 e; leads = f; rises = omega (arith, same.0, up) }
+      ]
 
   -- paths that arrive at one pc have one shape
   path_one_shape : {j k pc : ℕ} {s t : Shape} → Path program m code j pc s → Path program m code k pc t → s ≡ t
   path_one_shape {j = j} {k = k} {pc = pc} {s = s} {t = t} p q =
       elim (cases_order j k) [
-          inl same ↦ (path_same (subst (λ (n : ℕ). Path program m code n pc s) same p) q).1
+        | inl same ↦ (path_same (subst (λ (n : ℕ). Path program m code n pc s) same p) q).1
         | inr other ↦
-          elim other [
-              inl less ↦ absurd (omega (arith, (path_before q p less).rises))
-            | inr more ↦ absurd (omega (arith, (path_before p q more).rises)) ] ]
+            elim other [
+              | inl less ↦ absurd (omega (arith, (path_before q p less).rises))
+              | inr more ↦ absurd (omega (arith, (path_before p q more).rises))
+            ]
+      ]
 
   -- typing paths arrive at each pc with one shape
   pub arrivals_same : {pc : ℕ} {s t : Shape} → Arrives program m code pc s → Arrives program m code pc t → s ≡ t
@@ -118,16 +121,18 @@ module _ (program : Program) (m : ℕ) (code : Code) where
   path_typed : {j k pc pd : ℕ} {s t : Shape} (after : After) → Path program m code j pc s → typed_at program m code pc s ≡ Some after → after.next ≡ None → Path program m code k pd t → IsSome (typed_at program m code pd t)
   path_typed {j = j} {k = k} {pc = pc} {pd = pd} {s = s} {t = t} after p e f q =
       elim (cases_order j k) [
-          inl same ↦
-          let one = path_same (subst (λ (n : ℕ). Path program m code n pc s) same p) q in
-          is_some_from _ after (moved (typed_at program m code) pd pc t s after (sym one.0) (sym one.1) e)
+        | inl same ↦
+            let one = path_same (subst (λ (n : ℕ). Path program m code n pc s) same p) q in
+            is_some_from _ after (moved (typed_at program m code) pd pc t s after (sym one.0) (sym one.1) e)
         | inr other ↦
-          elim other [
-              inl less ↦
-              let on_way = path_before q p less in
-              absurd (none-some on_way.next (sym f ∙ ap (λ (a : After). a.next) (same_Some after on_way.after (sym e ∙ on_way.typed)) ∙ on_way.leads))
-            | inr more ↦
-              let on_way = path_before p q more in is_some_from _ on_way.after on_way.typed ] ]
+            elim other [
+              | inl less ↦
+                  let on_way = path_before q p less in
+                  absurd (none-some on_way.next (sym f ∙ ap (λ (a : After). a.next) (same_Some after on_way.after (sym e ∙ on_way.typed)) ∙ on_way.leads))
+              | inr more ↦
+                  let on_way = path_before p q more in is_some_from _ on_way.after on_way.typed
+            ]
+      ]
 
   -- a path that ends without a fault is all there is, so the code is typed
   pub typed_from_end : {pc : ℕ} {s : Shape} (after : After) → Arrives program m code pc s → typed_at program m code pc s ≡ Some after → after.next ≡ None → IsTypedCode program m code
@@ -143,3 +148,33 @@ heights_same program m pc h k (code, s, found, arrives, is) (other, t, find, arr
     let one : code ≡ other = same_Some code other (sym found ∙ find) in
     let arrived = subst (λ (c : Code). Arrives program m c pc s) one arrives in
     sym is ∙ one_height program m other arrived arrive ∙ at
+
+-- ---- a step, from what is found at its pc
+
+module _ (program : Program) (m : ℕ) (code : Code) (pc next : ℕ) (operation : Operation) (callee : Option ℕ) (s : Shape)
+    (found : operation_at program m pc ≡ Some (operation, next)) (named : callee_at program m pc ≡ callee) where
+  typed_at-found : typed_at program m code pc s ≡ option_and_then (leads_on code operation next) (shape_after program callee operation s)
+  typed_at-found =
+      ap (λ (o : Option (Operation × ℕ)). typed_by program code (callee_at program m pc) o s) found
+      ∙ ap (λ (c : Option ℕ). option_and_then (leads_on code operation next) (shape_after program c operation s)) named
+
+  pub typed_at-leads : (t : Shape) → shape_after program callee operation s ≡ Some t → typed_at program m code pc s ≡ leads_on code operation next t
+  typed_at-leads t e = typed_at-found ∙ ap (λ (o : Option Shape). option_and_then (leads_on code operation next) o) e
+
+pub leads_on-return : (code : Code) (operation : Operation) (next : ℕ) (t : Shape) → operation ≡ Return → leads_on code operation next t ≡ Some (record { next = None; shape = t })
+leads_on-return code operation next t e = ap (λ (o : Operation). leads_on code o next t) e
+
+leads_on-goes : (code : Code) (operation : Operation) (next : ℕ) (t : Shape) → (operation ≡ Return → ⊥) → leads_on code operation next t ≡ goes_to code next t
+leads_on-goes code Return next t other = absurd (other refl)
+leads_on-goes code (Constant z) next t other = refl
+leads_on-goes code (Load k) next t other = refl
+leads_on-goes code (Store k) next t other = refl
+leads_on-goes code Add next t other = refl
+leads_on-goes code Subtract next t other = refl
+leads_on-goes code (InvokeStatic k) next t other = refl
+leads_on-goes code Other next t other = refl
+
+pub leads_on-next_pc : (code : Code) (operation : Operation) (next : ℕ) (t : Shape) → (operation ≡ Return → ⊥) → next < length code.bytes → length t.stack ≤ code.max_stack → leads_on code operation next t ≡ Some (record { next = Some next; shape = t })
+leads_on-next_pc code operation next t other inside low =
+    leads_on-goes code operation next t other
+    ∙ cond-true (nat_lt next (length code.bytes) && nat_le (length t.stack) code.max_stack) _ None (and_from _ _ (lt-ltb _ _ inside) (le-leb _ _ low))

@@ -1,5 +1,5 @@
 -- What the labels of a policy say of levels and methods. Labels on a dependence graph are after Hammer and Snelting (2009).
-use Rattle.std.specs.Prelude.{◌≡◌, ℕ, Bool, true, false, ◌&&◌, ◌||◌, ◌==◌, if◌then◌else◌, List, [], ◌∷◌, Option, Some, None, Contains}
+use Rattle.std.specs.Prelude.{ℕ, Bool, true, false, ◌&&◌, ◌||◌, ◌==◌, if◌then◌else◌, List, [], ◌∷◌, Option, Some, None, Contains}
 use Rattle.jo_prog.specs.declared.labels.Label.{Label}
 use Rattle.jo_prog.specs.declared.labels.Label.TheVariants.{Source, Sink, Release}
 use Rattle.jo_prog.specs.declared.labels.Labels.{Labels}

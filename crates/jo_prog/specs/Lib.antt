@@ -6,3 +6,5 @@ pub mod Values
 pub mod Machine
 pub mod Runs
 pub mod PlainCode
+pub mod IntShapes
+pub mod Worked

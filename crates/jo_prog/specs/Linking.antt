@@ -1,5 +1,5 @@
 -- The program of one class file: the prelude, here its first class without its members, and the file's class.
-use Rattle.std.specs.Prelude.{◌≡◌, ℕ, zero, suc, Bool, true, false, if◌then◌else◌, List, [], ◌∷◌, map, length, Option, Some, None, option_map, unwrap_or, codes}
+use Rattle.std.specs.Prelude.{ℕ, zero, suc, Bool, false, if◌then◌else◌, List, [], ◌∷◌, map, length, Option, Some, None, option_map, unwrap_or, codes}
 use Rattle.std.specs.Str.{bytes_eq}
 use Rattle.class_read.specs.ClassGrammar.{utf8_at, class_name_at, entry_at}
 use Rattle.class_read.specs.declared.class_pool.PoolEntry.{PoolEntry}
@@ -11,7 +11,6 @@ use Rattle.jo_prog.specs.declared.program.Program.{Program}
 use Rattle.jo_prog.specs.declared.program.Class.{Class}
 use Rattle.jo_prog.specs.declared.program.Method.{Method}
 use Rattle.jo_prog.specs.declared.program.Code.{Code}
-use Rattle.jo_prog.specs.declared.program.TypeRef.{TypeRef}
 use Rattle.jo_prog.specs.declared.program.TypeRef.TheVariants.{Class as OfClass}
 use Rattle.jo_prog.specs.declared.program.Operand.{Operand}
 use Rattle.jo_prog.specs.declared.program.Operand.TheVariants.{Unused, Member}

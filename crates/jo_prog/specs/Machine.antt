@@ -1,7 +1,7 @@
 -- The interleaving machine: its states, and one step of one thread (JVM Specification SE 8, 2.5, 2.6 and chapter 6). It is
 -- stepped over plain code. A source, a sink and a release are what the policy says (this project's own).
 -- A thread without frames has ended. No exception is raised by plain code, so a pending one has no step yet.
-use Rattle.std.specs.Prelude.{◌≡◌, ℕ, ◌+◌, ℤ, pos, Bool, true, false, ◌==◌, nat_le, if◌then◌else◌, List, [], ◌∷◌, ◌++◌, length, take, drop, replicate, Option, Some, None, option_and_then, slice_get, slice_set, slice_index, slice_index_or}
+use Rattle.std.specs.Prelude.{ℕ, ◌+◌, ℤ, pos, Bool, ◌==◌, nat_le, if◌then◌else◌, List, [], ◌∷◌, ◌++◌, length, take, drop, replicate, Option, Some, None, slice_get, slice_set, slice_index, slice_index_or}
 use Rattle.class_read.specs.declared.jo_insn.Operation.{Operation}
 use Rattle.class_read.specs.declared.jo_insn.Operation.TheVariants.{Constant, Load, Store, Add, Subtract, InvokeStatic, Return, Other}
 use Rattle.jo_prog.specs.declared.labels.Label.{Label}
@@ -14,7 +14,7 @@ use Rattle.jo_prog.specs.declared.runs.Event.{Event}
 use Rattle.jo_prog.specs.declared.runs.Event.TheVariants.{Out, Release as Released}
 use Rattle.jo_prog.specs.Labels.{label_of}
 use Rattle.jo_prog.specs.Program.{code_at, operation_at, callee_at}
-use Rattle.jo_prog.specs.Values.{Value, int, null, ref, Info, object, array, Effect, pushes, stores, returns, Outcome, exec}
+use Rattle.jo_prog.specs.Values.{Value, int, Info, object, Effect, pushes, stores, returns, Outcome, exec}
 
 -- a frame; the stack's top comes first, and a local that isn't set has no value
 pub record Frame : Type 0 where

@@ -1,5 +1,5 @@
 -- Labels that fit a program, and the first form of programs: one class, whose only code is the entry's, in one straight line.
-use Rattle.std.specs.Prelude.{◌≡◌, ◌⊎◌, ℕ, ◌<◌, Bool, true, false, ◌==◌, List, [], ◌∷◌, length, map, Option, Some, None, IsSome, IsNone, codes}
+use Rattle.std.specs.Prelude.{◌≡◌, ℕ, ◌<◌, Bool, true, false, List, length, map, Option, Some, None, IsSome, codes}
 use Rattle.std.specs.List.{AllByRecursion}
 use Rattle.std.specs.List.Sorted.{IsStrictlyIncreasing}
 use Rattle.class_read.specs.ClassGrammar.{has_flag, static_flag, native_flag}

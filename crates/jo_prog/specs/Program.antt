@@ -1,19 +1,18 @@
 -- What stands in a program: the instruction at a pc, and the method that it names.
-use Rattle.std.specs.Prelude.{◌≡◌, ℕ, Bool, true, false, ◌&&◌, ◌==◌, if◌then◌else◌, List, [], ◌∷◌, Option, Some, None, option_and_then, option_map, slice_get}
+use Rattle.std.specs.Prelude.{ℕ, Bool, false, ◌&&◌, if◌then◌else◌, List, [], ◌∷◌, Option, Some, None, option_and_then, option_map, slice_get}
 use Rattle.std.specs.Str.{bytes_eq}
 use Rattle.class_read.specs.Opcodes.{decoded, operation_of}
 use Rattle.class_read.specs.declared.jo_insn.Insn.{Insn}
 use Rattle.class_read.specs.declared.jo_insn.Operation.{Operation}
-use Rattle.class_read.specs.declared.jo_insn.Operation.TheVariants.{Constant, Load, Store, Add, Subtract, InvokeStatic, Return, Other}
+use Rattle.class_read.specs.declared.jo_insn.Operation.TheVariants.{InvokeStatic}
 use Rattle.jo_prog.specs.declared.program.Program.{Program}
 use Rattle.jo_prog.specs.declared.program.Class.{Class}
 use Rattle.jo_prog.specs.declared.program.Method.{Method}
 use Rattle.jo_prog.specs.declared.program.Code.{Code}
-use Rattle.jo_prog.specs.declared.program.MemberRef.{MemberRef}
 use Rattle.jo_prog.specs.declared.program.TypeRef.{TypeRef}
 use Rattle.jo_prog.specs.declared.program.TypeRef.TheVariants.{Class as OfClass, Array as OfArray}
 use Rattle.jo_prog.specs.declared.program.Operand.{Operand}
-use Rattle.jo_prog.specs.declared.program.Operand.TheVariants.{Unused, Int, Text, OfType, Member}
+use Rattle.jo_prog.specs.declared.program.Operand.TheVariants.{Member}
 
 abbrev pub method_at : Program → ℕ → Option Method
 method_at program m = slice_get program.methods m

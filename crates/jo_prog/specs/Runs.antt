@@ -1,6 +1,6 @@
 -- Runs over a schedule, and what an observer sees of one (this project's own; low-security observational determinism is
 -- after Giffhorn and Snelting 2015).
-use Rattle.std.specs.Prelude.{◌≡◌, ℕ, zero, suc, ◌%◌, Bool, true, false, ◌==◌, if◌then◌else◌, List, [], ◌∷◌, length, filter, Option, Some, None, slice_index}
+use Rattle.std.specs.Prelude.{ℕ, suc, ◌%◌, Bool, true, false, if◌then◌else◌, List, [], ◌∷◌, length, filter, Option, Some, None, slice_index}
 use Rattle.jo_prog.specs.declared.labels.Labels.{Labels}
 use Rattle.jo_prog.specs.declared.program.Program.{Program}
 use Rattle.jo_prog.specs.declared.runs.SourceInput.{SourceInput}

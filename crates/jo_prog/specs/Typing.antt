@@ -1,6 +1,6 @@
 -- Typing by the paths of the code (JVM Specification SE 8, 4.10; the form by paths is this project's own), in its part
 -- for plain code.
-use Rattle.std.specs.Prelude.{◌≡◌, ℕ, zero, suc, ◌++◌, ◌+◌, ◌≤◌, ◌<◌, Bool, true, false, ◌&&◌, nat_le, nat_lt, if◌then◌else◌, List, [], ◌∷◌, length, replicate, Option, Some, None, IsSome, option_map, option_and_then, slice_get, slice_set, codes}
+use Rattle.std.specs.Prelude.{◌≡◌, ℕ, zero, suc, ◌++◌, ◌&&◌, nat_le, nat_lt, if◌then◌else◌, List, [], ◌∷◌, length, replicate, Option, Some, None, IsSome, option_map, option_and_then, slice_get, slice_set, codes}
 use Rattle.std.specs.Str.{bytes_eq}
 use Rattle.class_read.specs.declared.jo_insn.Operation.{Operation}
 use Rattle.class_read.specs.declared.jo_insn.Operation.TheVariants.{Constant, Load, Store, Add, Subtract, InvokeStatic, Return, Other}

@@ -1,10 +1,10 @@
 -- Values, and what an instruction does with them, as one pure function over any type of addresses (JVM Specification SE 8,
 -- 2.11 and chapter 6). It looks at references through what stands at them, equality and null alone.
-use Rattle.std.specs.Prelude.{◌≡◌, ℕ, ℤ, Bool, List, [], ◌∷◌, Option, Some, None}
+use Rattle.std.specs.Prelude.{ℕ, ℤ, List, [], ◌∷◌, Option, Some, None}
 use Rattle.std.specs.Int.{w32, int_wrapping_add, int_wrapping_sub}
 use Rattle.class_read.specs.declared.jo_text.FieldDesc.{FieldDesc}
 use Rattle.class_read.specs.declared.jo_insn.Operation.{Operation}
-use Rattle.class_read.specs.declared.jo_insn.Operation.TheVariants.{Constant, Load, Store, Add, Subtract, InvokeStatic, Return, Other}
+use Rattle.class_read.specs.declared.jo_insn.Operation.TheVariants.{Constant, Load, Store, Add, Subtract, Return}
 
 -- an int, null, or a reference
 pub data Value (A : Type 0) : Type 0 where

@@ -1,6 +1,7 @@
 //! Programs: classes with their methods, the policy's labels for them, and what a run of one is.
 #![tactic(auto)]
 
+pub mod jvm_typing;
 pub mod labels;
 pub mod laws;
 pub mod linker;

@@ -1,10 +1,8 @@
 //! Makes the program of one class file.
-ghost use Rattle.std.specs.Prelude.{◌≡◌, ℕ, ◌<◌, ◌^◌, ◌++◌, ◌∷◌, [], length, map, unwrap_or, option_map, Some, IfOk, OnOk};
-ghost use Rattle.std.specs.Option.{option_copied};
-ghost use Rattle.std.specs.Str.{bytes_eq};
+ghost use Rattle.std.specs.Prelude.{◌≡◌, ◌<◌, ◌^◌, ◌++◌, ◌∷◌, [], length, map, option_map, IfOk, OnOk};
 ghost use Rattle.class_read.specs.ClassGrammar.{entry_at};
 ghost use Rattle.jo_prog.specs.declared.program.Operand.TheVariants.{Unused};
-ghost use Rattle.jo_prog.specs.Linking.{object_class, count_from, text_at, member_named, operand_of, is_named, code_of, method_of, this_name, this_class_of, program_of};
+ghost use Rattle.jo_prog.specs.Linking.{object_class, count_from, text_at, member_named, operand_of, code_of, method_of, this_class_of, program_of};
 
 use crate::program::{Class, Code, MemberRef, Method, Operand, Program, TypeRef};
 use class_read::class_pool::{

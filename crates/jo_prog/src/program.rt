@@ -3,7 +3,7 @@
 ghost use Rattle.std.specs.Prelude.{◌≡◌, ℕ, ◌+◌, ◌<◌, ◌^◌, ◌≤◌, option_map, Some, IfSome, length, ◌&&◌};
 ghost use Rattle.std.specs.Option.{option_copied};
 ghost use Rattle.class_read.specs.Opcodes.{decoded};
-ghost use Rattle.jo_prog.specs.Program.{as_operation, method_at, class_at, code_at, operation_in, operation_at, first_with, resolve, resolve_owned, resolve_operand, operand_at, callee_of, callee_at};
+ghost use Rattle.jo_prog.specs.Program.{as_operation, method_at, class_at, code_at, operation_at, first_with, resolve_operand, operand_at, callee_of, callee_at};
 ghost use Rattle.std.specs.Str.{bytes_eq};
 
 use class_read::jo_ids::{ClassId, FieldId, List, MethodId};
@@ -88,7 +88,7 @@ pub enum Operand {
     Member(MemberRef),
 }
 
-fn method_at(program: &Program, method: MethodId) -> Option<&Method>
+pub(crate) fn method_at(program: &Program, method: MethodId) -> Option<&Method>
     ensures { option_copied result ≡ method_at program.now method }
 {
     program.methods.as_slice().get(method.number() as usize)

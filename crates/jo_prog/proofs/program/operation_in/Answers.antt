@@ -1,4 +1,4 @@
-use Rattle.std.proofs.Common.{◌≡◌, ℕ, List, Some, sym, ap, ◌∙◌}
+use Rattle.std.proofs.Common.{ℕ, List, sym, ap, ◌∙◌}
 use Rattle.class_read.specs.Opcodes.{decoded}
 use Rattle.jo_prog.proofs.Decoding.{IsNext, decoded-next}
 use Rattle.jo_prog.proofs.program.operation_in.Goals as goal
