@@ -3,3 +3,4 @@ pub mod SlicerLemmas
 pub mod PlainLine
 pub mod PlainReaching
 pub mod BuildingLemmas
+pub mod NodeLists
