@@ -4,3 +4,4 @@ pub mod PlainLine
 pub mod PlainReaching
 pub mod BuildingLemmas
 pub mod NodeLists
+pub mod PlainSteps
