@@ -24,11 +24,12 @@ use Rattle.flow_graph.specs.declared.dep_nodes.Edge.{Edge}
 use Rattle.flow_graph.specs.declared.sdg.Definitions.{Definitions}
 use Rattle.flow_graph.specs.declared.sdg.SourceResult.{SourceResult}
 use Rattle.flow_graph.specs.Flow.{node_at, FlowEdge, stays, IsFlowNode, reads_of, writes_of, Reads, Writes, by_instr, by_result, ArgumentPlace}
-use Rattle.flow_graph.specs.Dependence.{Reaches, Controls}
+use Rattle.flow_graph.specs.Dependence.{Reaches, one, Controls}
+use Rattle.flow_graph.specs.Chains.{pc_of}
 use Rattle.flow_graph.specs.Graph.{Instance, Node, node, IsReached, at_entry, IsNode, of_flow, of_argument, label_at, is_source, is_sink, UsesCursor, at_result, DependenceEdge, used, passed, shown, controlled, ended, next_input}
 use Rattle.flow_graph.specs.GraphData.{edge, node_named}
 use Rattle.flow_graph.specs.Building.{definition_of, AreWritten, name_of, use_edges, uses_edges, out_edges, control_edges}
-use Rattle.flow_graph.proofs.PlainLine.{out_of, LineAt, flow_line}
+use Rattle.flow_graph.proofs.PlainLine.{out_of, LineAt, IsBehind, flow_line, reaches_flow}
 use Rattle.flow_graph.proofs.PlainReaching.{position, reaches_up, reaches_next, controls_entry, entry_controls, controlled_flow, root, IsKindOf, node_kind}
 use Rattle.flow_graph.proofs.NodeLists.{contains_one, contains_none, contains_first, node_in, NodesStay, stay-push, node-push, rank, AreNodes, nodes-push, nodes-weaker, HasEdge, IsEdgeOf, has_edge-more, edge_of-more}
 
@@ -252,3 +253,140 @@ cases_contains (w ∷ vs) v = elim (cases_place w v) [
   | inr other ↦ elim (cases_contains vs v) [
       inl rest ↦ inl (Contains-append_right (w ∷ []) vs v rest)
     | inr none ↦ inr (λ is. elim (contains_cons w vs v is) [ inl same ↦ other same | inr rest ↦ none rest ]) ] ]
+
+-- what control leaves by writes its places, and every other definition stays
+module _ (program : Program) (labels : Labels) (code : Code) (typed : IsTypedCode program labels.entry code) (pc next : ℕ) (operation : Operation) (found : operation_at program labels.entry pc ≡ Some (operation, next)) (behind : IsBehind program labels.entry code pc) where
+  pub defined_next : (old nodes : List NodeName) (before after : Definitions) (places : List Place) (j : ℕ) → IsDefined program labels (node_at program labels.entry pc) old before → NodesStay old nodes → AreWritten before after places j
+      → node_in nodes j ≡ Some (node (root labels) (out_of (node_at program labels.entry pc)))
+      → ((v : Place) → Writes program labels.entry (out_of (node_at program labels.entry pc)) v → Contains places v) → ((v : Place) → Contains places v → Writes program labels.entry (out_of (node_at program labels.entry pc)) v)
+      → IsFlowNode program labels.entry (out_of (node_at program labels.entry pc)) → FlowEdge program labels.entry (out_of (node_at program labels.entry pc)) (node_at program labels.entry next)
+      → ((v : Place) (d : NodeKind) → Reaches program labels.entry v d (node_at program labels.entry pc) → (Writes program labels.entry (out_of (node_at program labels.entry pc)) v → ⊥) → Reaches program labels.entry v d (node_at program labels.entry next))
+      → IsDefined program labels (node_at program labels.entry next) nodes after
+  defined_next old nodes before after places j defined stay written at to from flow leads keep = record {
+    right = λ v i e. elim (cases_contains places v) [
+        inl among ↦
+          let same : j ≡ i = same_Some j i (sym (written.here v among) ∙ e) in
+          (out_of (node_at program labels.entry pc), flow, one (node_at program labels.entry next) leads (from v among), ap (node_in nodes) (sym same) ∙ at)
+      | inr none ↦
+          let was = defined.right v i (sym (written.others v none) ∙ e) in
+          (was.0, was.1, keep v was.0 was.2 (λ w. none (to v w)), stay i (node (root labels) was.0) was.3) ];
+    each = λ v d flows r. elim (reaches_next program labels.entry code typed pc next operation found behind v d flows r) [
+        inl here ↦
+          let among = to v (subst (λ k. Writes program labels.entry k v) here.0 here.1) in
+          (j, written.here v among, at ∙ ap (λ k. Some (node (root labels) k)) (sym here.0))
+      | inr before ↦
+          let was = defined.each v d flows before.0 in
+          (was.0, written.others v (λ is. before.1 (from v is)) ∙ was.1, stay was.0 (node (root labels) d) was.2) ]
+  }
+
+-- ---- edges by the words
+
+control_right : (program : Program) (labels : Labels) (nodes : List NodeName) (j : ℕ) (k : NodeKind) → IsFlowNode program labels.entry k → k ≢ Entry → k ≢ Exit → node_in nodes 0 ≡ Some (node (root labels) Entry) → node_in nodes j ≡ Some (node (root labels) k)
+    → (e : Edge) → Contains (control_edges j) e → IsEdgeOf program labels nodes e
+control_right program labels nodes j k flow no_entry no_exit first at e is =
+    subst (λ x. IsEdgeOf program labels nodes x) (contains_one (edge 0 Control j) e is)
+      (node (root labels) Entry, node (root labels) k, first, at, controlled (root labels) Entry k at_entry (stays Entry) (entry_controls program labels.entry k flow no_entry no_exit))
+
+pub cursor_flow : (program : Program) (labels : Labels) (source : ℕ) (x : Node) → UsesCursor program labels source x → IsFlowNode program labels.entry x.kind
+cursor_flow program labels source x (at_result i p s at_entry flow callee is) = flow
+
+cursor_callee : (program : Program) (labels : Labels) (source : ℕ) (x : Node) → UsesCursor program labels source x → (callee_at program labels.entry (pc_of x.kind) ≡ Some source) × (is_source (label_of labels source) ≡ true)
+cursor_callee program labels source x (at_result i p s at_entry flow callee is) = (callee, is)
+
+flow_kind : (program : Program) (labels : Labels) (code : Code) (typed : IsTypedCode program labels.entry code) (k : NodeKind) → IsFlowNode program labels.entry k → IsKindOf program labels.entry k
+flow_kind program labels code typed k flow = (node_kind program labels code typed (node (root labels) k) (of_flow (root labels) k at_entry flow)).1
+
+-- ---- an instruction that is no call
+
+out_right : (program : Program) (labels : Labels) (pc next j : ℕ) (operation : Operation) → operation_at program labels.entry pc ≡ Some (operation, next) → (nodes : List NodeName) → IsFlowNode program labels.entry (Instr pc) → node_in nodes j ≡ Some (node (root labels) (Instr pc))
+    → node_in nodes 2 ≡ Some (node (root labels) Kind) → (e : Edge) → Contains (out_edges operation j) e → IsEdgeOf program labels nodes e
+out_right program labels pc next j (Constant z) found nodes flow at third e is = absurd (contains_none e is)
+out_right program labels pc next j (Load k) found nodes flow at third e is = absurd (contains_none e is)
+out_right program labels pc next j (Store k) found nodes flow at third e is = absurd (contains_none e is)
+out_right program labels pc next j Add found nodes flow at third e is = absurd (contains_none e is)
+out_right program labels pc next j Subtract found nodes flow at third e is = absurd (contains_none e is)
+out_right program labels pc next j (InvokeStatic k) found nodes flow at third e is = absurd (contains_none e is)
+out_right program labels pc next j Return found nodes flow at third e is =
+    subst (λ x. IsEdgeOf program labels nodes x) (contains_one (edge j Out 2) e is) (node (root labels) (Instr pc), node (root labels) Kind, at, third, ended (root labels) pc next at_entry flow found)
+out_right program labels pc next j Other found nodes flow at third e is = absurd (contains_none e is)
+
+module _ (program : Program) (labels : Labels) (pc next : ℕ) (operation : Operation) (found : operation_at program labels.entry pc ≡ Some (operation, next)) (h : ℕ) (has : HasHeight program labels.entry pc h) where
+  reads_by : (k : NodeKind) (v : Place) → Reads program labels.entry k v → k ≡ Instr pc → Contains (reads_of operation h) v
+  reads_by k v (by_instr p to height o w at high among) is =
+      let same : p ≡ pc = ap pc_of is in
+      let o_same = (some_pair_parts o operation to next (sym at ∙ ap (operation_at program labels.entry) same ∙ found)).0 in
+      let h_same = heights_same program labels.entry pc height h (subst (λ q. HasHeight program labels.entry q height) same high) has in
+      subst (λ x. Contains (reads_of operation x) w) h_same (subst (λ x. Contains (reads_of x height) w) o_same among)
+
+  writes_by : (k : NodeKind) (v : Place) → Writes program labels.entry k v → k ≡ Instr pc → Contains (writes_of operation h) v
+  writes_by k v (by_instr p to height o w at high among) is =
+      let same : p ≡ pc = ap pc_of is in
+      let o_same = (some_pair_parts o operation to next (sym at ∙ ap (operation_at program labels.entry) same ∙ found)).0 in
+      let h_same = heights_same program labels.entry pc height h (subst (λ q. HasHeight program labels.entry q height) same high) has in
+      subst (λ x. Contains (writes_of operation x) w) h_same (subst (λ x. Contains (writes_of x height) w) o_same among)
+  writes_by k v (by_result p height arguments high counts results) is = (let no : ⊥ = cc in absurd no)
+
+  pub instr_reads : (v : Place) → Reads program labels.entry (Instr pc) v → Contains (reads_of operation h) v
+  instr_reads v r = reads_by (Instr pc) v r refl
+
+  pub instr_writes : (v : Place) → Writes program labels.entry (Instr pc) v → Contains (writes_of operation h) v
+  instr_writes v w = writes_by (Instr pc) v w refl
+
+module _ (program : Program) (labels : Labels) (code : Code) (typed : IsTypedCode program labels.entry code) (pc next : ℕ) (operation : Operation) (found : operation_at program labels.entry pc ≡ Some (operation, next))
+    (h : ℕ) (has : HasHeight program labels.entry pc h) (nodes : List NodeName) (edges : List Edge) (results : List SourceResult) (definitions : Definitions) (built : IsBuilt program labels pc nodes edges results)
+    (defined : IsDefined program labels (node_at program labels.entry pc) nodes definitions) (instr : node_at program labels.entry pc ≡ Instr pc) (flow : IsFlowNode program labels.entry (Instr pc)) where
+  pub instr_built : IsBuilt program labels (pc + 1) (nodes ++ name_of labels.entry (Instr pc) None ∷ [])
+      (edges ++ control_edges (length nodes) ++ uses_edges definitions (reads_of operation h) (length nodes) ++ out_edges operation (length nodes)) results
+  instr_built =
+      let j = length nodes in
+      let name = name_of labels.entry (Instr pc) None in
+      let more = nodes ++ name ∷ [] in
+      let c = control_edges j in
+      let u = uses_edges definitions (reads_of operation h) j in
+      let o = out_edges operation j in
+      let all = edges ++ c ++ u ++ o in
+      let stay = stay-push nodes name in
+      let at : node_in more j ≡ Some (node (root labels) (Instr pc)) = node-push nodes name in
+      let first = stay 0 (node (root labels) Entry) built.first in
+      let third = stay 2 (node (root labels) Kind) built.third in
+      let in_old = λ (e : Edge) (is : Contains edges e). Contains-append_left (edges ++ c ++ u) o e (Contains-append_left (edges ++ c) u e (Contains-append_left edges c e is)) in
+      let no = λ (call : node_at program labels.entry pc ≡ Call pc). no_call program labels code typed pc pc refl instr call in
+      let cover : CoversEdges program labels pc more all = record {
+        uses = λ d v flows r reads.
+          let was = defined.each v d flows (subst (λ k. Reaches program labels.entry v d k) (sym instr) r) in
+          (was.0, j, stay was.0 (node (root labels) d) was.2, at,
+            Contains-append_left (edges ++ c ++ u) o (edge was.0 Data j) (Contains-append_right (edges ++ c) u (edge was.0 Data j)
+              (uses_there definitions j was.0 v (reads_of operation h) (instr_reads program labels pc next operation found h has v reads) was.1)));
+        passes = λ d v k flows r place. absurd (no (call_line program labels code typed pc (reaches_flow program labels.entry v d (Call pc) flows r)));
+        shows = λ v flows sink place. absurd (no (call_line program labels code typed pc flows));
+        controls = λ n flows here.
+          subst (λ k. HasEdge more all (node (root labels) Entry) Control (node (root labels) k)) (sym (kind_at_instr program labels code typed pc instr n (flow_kind program labels code typed n flows) here))
+            (0, j, first, at, Contains-append_left (edges ++ c ++ u) o (edge 0 Control j) (Contains-append_left (edges ++ c) u (edge 0 Control j) (Contains-append_right edges c (edge 0 Control j) (contains_first (edge 0 Control j) []))));
+        ends = λ to flows returns.
+          let is = (some_pair_parts operation Return next to (sym found ∙ returns)).0 in
+          (j, 2, at, third, Contains-append_right (edges ++ c ++ u) o (edge j Out 2) (subst (λ x. Contains (out_edges x j) (edge j Out 2)) (sym is) (contains_first (edge j Out 2) [])));
+        inputs = λ source y mine other low. absurd (no (return_line program labels code typed pc (cursor_flow program labels source (node (root labels) (RetVal pc)) mine)))
+      } in
+      record {
+        nodes_right = nodes-weaker program labels (3 * pc + 4 + 1) (4 + 3 * (pc + 1)) more
+          (nodes-push program labels (4 + 3 * pc) nodes name built.nodes_right (of_flow (root labels) (Instr pc) at_entry flow) (omega arith) refl) (omega arith);
+        few = (let l = length_push nodes name in let f = built.few in omega arith);
+        each_node = each_node-more program labels code typed pc nodes more stay built.each_node (λ k is here. (j, at ∙ ap (λ x. Some (node (root labels) x)) (sym (kind_at_instr program labels code typed pc instr k is here))));
+        first = first;
+        third = third;
+        only_edges = λ e is. elim (Contains-append_cases (edges ++ c ++ u) o e is) [
+            inl x ↦ elim (Contains-append_cases (edges ++ c) u e x) [
+                inl y ↦ elim (Contains-append_cases edges c e y) [
+                    inl was ↦ edge_of-more program labels nodes more e stay (built.only_edges e was)
+                  | inr control ↦ control_right program labels more j (Instr pc) flow (λ z. cc) (λ z. cc) first at e control ]
+              | inr used_here ↦ uses_right program labels more definitions j (reads_of operation h) (λ v d among def.
+                  let was = defined.right v d def in
+                  (node (root labels) was.0, node (root labels) (Instr pc), stay d (node (root labels) was.0) was.3, at,
+                    used (root labels) was.0 (Instr pc) v at_entry was.1 (subst (λ k. Reaches program labels.entry v was.0 k) instr was.2) (by_instr pc next h operation v found has among))) e used_here ]
+          | inr out ↦ out_right program labels pc next j operation found more flow at third e out ];
+        each_edge = each_edge-more program labels pc more all cover nodes edges stay in_old built.each_edge;
+        results_right = λ r is. (let was = built.results_right r is in (was.0, stay r.node was.0 was.1, was.2));
+        each_result = λ source n mine low. elim (cases_eq (position n.kind) (pc + 1)) [
+            inl here ↦ absurd (no (return_line program labels code typed pc (cursor_flow program labels source (node (root labels) (RetVal pc)) (subst (λ x. UsesCursor program labels source x) (cursor_here program labels pc more all cover source n mine here) mine))))
+          | inr other ↦ (let was = built.each_result source n mine (omega arith) in (was.0, stay was.0 n was.1, was.2)) ]
+      }
