@@ -2,3 +2,6 @@ pub mod ChainWalks
 pub mod SlicerLemmas
 pub mod PlainLine
 pub mod PlainReaching
+pub mod BuildingLemmas
+pub mod NodeLists
+pub mod PlainSteps

@@ -4,3 +4,4 @@ pub mod Graph
 pub mod Chains
 pub mod GraphData
 pub mod Slices
+pub mod Building

@@ -4,4 +4,5 @@
 pub mod dep_nodes;
 pub mod flow;
 pub mod laws;
+pub mod sdg;
 pub mod slicer;

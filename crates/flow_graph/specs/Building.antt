@@ -1,0 +1,61 @@
+-- What the walk over plain code adds to a graph, an instruction at a time.
+use Rattle.std.specs.Prelude.{◌≡◌, ℕ, ◌+◌, ◌-◌, ◌<◌, ◌==◌, if◌then◌else◌, List, [], ◌∷◌, ◌++◌, length, Option, Some, None, Contains, slice_index_or, slice_get, option_map}
+use Rattle.class_read.specs.declared.jo_insn.Operation.{Operation}
+use Rattle.class_read.specs.declared.jo_insn.Operation.TheVariants.{Return}
+use Rattle.flow_graph.specs.declared.flow.Place.{Place}
+use Rattle.flow_graph.specs.declared.flow.Place.TheVariants.{Local, Stack, Pending}
+use Rattle.flow_graph.specs.declared.flow.NodeKind.{NodeKind}
+use Rattle.flow_graph.specs.declared.dep_nodes.EdgeKind.TheVariants.{Data, Control, Out, Heap}
+use Rattle.flow_graph.specs.declared.dep_nodes.NodeName.{NodeName}
+use Rattle.flow_graph.specs.declared.dep_nodes.Edge.{Edge}
+use Rattle.flow_graph.specs.declared.sdg.Definitions.{Definitions}
+use Rattle.flow_graph.specs.declared.sdg.SourceResult.{SourceResult}
+use Rattle.flow_graph.specs.GraphData.{edge}
+
+-- the number of the node that wrote a place last
+abbrev pub definition_of : Definitions → Place → Option ℕ
+definition_of definitions (Local k) = slice_index_or definitions.locals.items k None
+definition_of definitions (Stack h) = slice_index_or definitions.stack.items h None
+definition_of definitions Pending = None
+
+-- the place stands in the tables
+abbrev pub HasPlace : Definitions → Place → Type 0
+HasPlace definitions (Local k) = k < length definitions.locals.items
+HasPlace definitions (Stack h) = h < length definitions.stack.items
+HasPlace definitions Pending = ⊥
+
+abbrev pub SameSizes : Definitions → Definitions → Type 0
+SameSizes old new = (length new.locals.items ≡ length old.locals.items) × (length new.stack.items ≡ length old.stack.items)
+
+-- a node has written these places, and no other
+pub record AreWritten (old new : Definitions) (places : List Place) (node : ℕ) : Type 0 where
+  pub here : (v : Place) → Contains places v → definition_of new v ≡ Some node
+  pub others : (v : Place) → (Contains places v → ⊥) → definition_of new v ≡ definition_of old v
+  pub sizes : SameSizes old new
+
+-- the name of a node in the root context
+abbrev pub name_of : ℕ → NodeKind → Option ℕ → NodeName
+name_of method kind resolved = record { method = method; sites = record { len = 0; first = 0; second = 0 }; kind = kind; resolved = resolved }
+
+-- a definition's edge to its use
+abbrev pub use_edges : Option ℕ → ℕ → List Edge
+use_edges None node = []
+use_edges (Some definition) node = edge definition Data node ∷ []
+
+abbrev pub uses_edges : Definitions → List Place → ℕ → List Edge
+uses_edges definitions [] node = []
+uses_edges definitions (v ∷ vs) node = use_edges (definition_of definitions v) node ++ uses_edges definitions vs node
+
+-- a return's edge to how the method ended, whose node is the third
+abbrev pub out_edges : Operation → ℕ → List Edge
+out_edges Return node = edge node Out 2 ∷ []
+out_edges _ node = []
+
+-- the edge from Entry, which is the first node
+abbrev pub control_edges : ℕ → List Edge
+control_edges node = edge 0 Control node ∷ []
+
+-- the edges between a new result of a source and those before it
+abbrev pub heap_edges : List SourceResult → ℕ → ℕ → List Edge
+heap_edges [] source node = []
+heap_edges (r ∷ rs) source node = (if r.source == source then edge r.node Heap node ∷ edge node Heap r.node ∷ [] else []) ++ heap_edges rs source node

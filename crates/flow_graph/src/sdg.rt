@@ -1,0 +1,179 @@
+//! Builds the dependence graph of a program of plain code, by one walk over its line of instructions.
+ghost use Rattle.std.specs.Prelude.{◌≡◌, ◌≢◌, ℕ, ◌+◌, ◌-◌, ◌*◌, ◌<◌, ◌≤◌, ◌^◌, List as Items, [], ◌∷◌, ◌++◌, length, Contains, IfOk, OnOk, replicate, slice_index_or};
+ghost use Rattle.flow_graph.specs.Flow.{reads_of, writes_of};
+ghost use Rattle.flow_graph.specs.declared.flow.Place.{Place as APlace};
+ghost use Rattle.flow_graph.specs.GraphData.{edge};
+ghost use Rattle.flow_graph.specs.Building.{definition_of, HasPlace, SameSizes, AreWritten, name_of, use_edges, uses_edges, out_edges, control_edges, heap_edges};
+
+use crate::dep_nodes::{Edge, EdgeKind, NodeName, SiteList};
+use crate::flow::{NodeKind, Place};
+use class_read::jo_ids::{List, Memory, MethodId, NodeId, SiteId};
+use class_read::jo_insn::Operation;
+use std::alloc::Global;
+
+/// The node that wrote each place last, for each local and for each height of the stack.
+#[derive(Drop)]
+struct Definitions {
+    locals: Vec<Option<NodeId>>,
+    stack: Vec<Option<NodeId>>,
+}
+
+/// A call's result that a source gave.
+#[derive(Clone, Copy)]
+struct SourceResult {
+    source: MethodId,
+    node: NodeId,
+}
+
+fn definition_in(table: &[Option<NodeId>], index: usize) -> Option<NodeId>
+    ensures { result ≡ slice_index_or table.now index None }
+{
+    match table.get(index) {
+        Some(definition) => *definition,
+        None => None,
+    }
+}
+
+impl Definitions {
+    /// The node that wrote a place last.
+    fn of(&self, place: Place) -> Option<NodeId>
+        ensures { result ≡ definition_of self.now place }
+    {
+        match place {
+            Place::Local(k) => definition_in(self.locals.as_slice(), k as usize),
+            Place::Stack(h) => definition_in(self.stack.as_slice(), h as usize),
+            Place::Pending => None,
+        }
+    }
+
+    /// A node writes a place.
+    fn define(&mut self, place: Place, node: NodeId)
+        requires { HasPlace self.old place }
+        ensures { AreWritten self.old self.new (place ∷ []) node }
+    {
+        match place {
+            Place::Local(k) => {
+                self.locals[k as usize] = Some(node);
+            }
+            Place::Stack(h) => {
+                self.stack[h as usize] = Some(node);
+            }
+            Place::Pending => {}
+        }
+    }
+
+    /// A node writes what its operation writes.
+    fn define_written(&mut self, operation: Operation, height: u16, node: NodeId)
+        requires { (v : APlace) → Contains (writes_of operation height) v → HasPlace self.old v }
+        ensures { AreWritten self.old self.new (writes_of operation height) node }
+    {
+        match operation {
+            Operation::Constant(_) => self.define(Place::Stack(height), node),
+            Operation::Load(_) => self.define(Place::Stack(height), node),
+            Operation::Store(k) => self.define(Place::Local(k), node),
+            Operation::Add => self.define(Place::Stack(height.saturating_sub(2)), node),
+            Operation::Subtract => self.define(Place::Stack(height.saturating_sub(2)), node),
+            Operation::InvokeStatic(_) => {}
+            Operation::Return => {}
+            Operation::Other => {}
+        }
+    }
+}
+
+/// Adds a node in the root context.
+fn add_node(nodes: &mut List<NodeName>, method: MethodId, kind: NodeKind, resolved: Option<MethodId>) -> Result<NodeId, Memory>
+    requires { length nodes.old < 2 ^ 32 }
+    ensures number { IfOk result (λ n. n ≡ length nodes.old) }
+    ensures added { OnOk result (nodes.new ≡ nodes.old ++ name_of method kind resolved ∷ []) }
+{
+    let number = NodeId::of(nodes.as_slice().len() as u32);
+    let sites = SiteList {
+        len: 0,
+        first: SiteId::of(0),
+        second: SiteId::of(0),
+    };
+    let name = NodeName {
+        method,
+        sites,
+        kind,
+        resolved,
+    };
+    match nodes.push(name) {
+        Ok(()) => Ok(number),
+        Err((_, memory)) => Err(memory),
+    }
+}
+
+/// Adds an edge.
+fn add_edge(edges: &mut List<Edge>, from: NodeId, kind: EdgeKind, to: NodeId) -> Result<(), Memory>
+    ensures { OnOk result (edges.new ≡ edges.old ++ edge from kind to ∷ []) }
+{
+    match edges.push(Edge { from, kind, to }) {
+        Ok(()) => Ok(()),
+        Err((_, memory)) => Err(memory),
+    }
+}
+
+/// Adds the edge from Entry.
+fn add_control(edges: &mut List<Edge>, to: NodeId) -> Result<(), Memory>
+    ensures { OnOk result (edges.new ≡ edges.old ++ control_edges to) }
+{
+    add_edge(edges, NodeId::of(0), EdgeKind::Control, to)
+}
+
+/// Adds the edge from the definition of a place to a use.
+fn add_use(edges: &mut List<Edge>, definition: Option<NodeId>, node: NodeId) -> Result<(), Memory>
+    ensures { OnOk result (edges.new ≡ edges.old ++ use_edges definition node) }
+{
+    match definition {
+        Some(definition) => add_edge(edges, definition, EdgeKind::Data, node),
+        None => Ok(()),
+    }
+}
+
+/// Adds the edges from the definitions that an operation uses.
+fn add_uses(
+    edges: &mut List<Edge>,
+    definitions: &Definitions,
+    operation: Operation,
+    height: u16,
+    node: NodeId,
+) -> Result<(), Memory>
+    ensures { OnOk result (edges.new
+        ≡ edges.old ++ uses_edges definitions.now (reads_of operation height) node) }
+{
+    match operation {
+        Operation::Load(k) => add_use(edges, definitions.of(Place::Local(k)), node),
+        Operation::Store(_) => {
+            add_use(edges, definitions.of(Place::Stack(height.saturating_sub(1))), node)
+        }
+        Operation::Add | Operation::Subtract => {
+            add_use(edges, definitions.of(Place::Stack(height.saturating_sub(1))), node)?;
+            add_use(edges, definitions.of(Place::Stack(height.saturating_sub(2))), node)
+        }
+        _ => Ok(()),
+    }
+}
+
+/// Adds a return's edge to the node Kind.
+fn add_out(edges: &mut List<Edge>, operation: Operation, node: NodeId) -> Result<(), Memory>
+    ensures { OnOk result (edges.new ≡ edges.old ++ out_edges operation node) }
+{
+    match operation {
+        Operation::Return => add_edge(edges, node, EdgeKind::Out, NodeId::of(2)),
+        _ => Ok(()),
+    }
+}
+
+/// Adds the edges between a new result of a source and those before it.
+fn add_heap(edges: &mut List<Edge>, results: &[SourceResult], source: MethodId, node: NodeId) -> Result<(), Memory>
+    ensures { OnOk result (edges.new ≡ edges.old ++ heap_edges results.now source node) }
+{
+    for before in results {
+        if before.source == source {
+            add_edge(edges, before.node, EdgeKind::Heap, node)?;
+            add_edge(edges, node, EdgeKind::Heap, before.node)?;
+        }
+    }
+    Ok(())
+}
