@@ -1,5 +1,5 @@
 //! What an observer may not depend on and what it may see, and a chain from the one to the other.
-ghost use Rattle.std.specs.Prelude.{◌≡◌, ◌++◌, ◌+◌, ◌^◌, ◌<◌, IfOk, OnOk, drop, length};
+ghost use Rattle.std.specs.Prelude.{◌≡◌, ◌^◌, ◌<◌, IfOk, Some, length};
 ghost use Rattle.jo_prog.specs.Labels.{reaches, misses, shown_at, brings, lets_out};
 ghost use Rattle.joana_cli.specs.Sides.{label_resolved, is_kind_on, is_on, places_from};
 
@@ -16,59 +16,36 @@ pub enum Side {
     Observed,
 }
 
-/// Whether the level flows to the observer, where there is one.
-fn reaches(labels: &Labels, observer: LevelId, level: Option<LevelId>) -> bool
-    ensures { result ≡ reaches labels.now observer level }
-{
-    match level {
-        Some(level) => labels::flows(labels, level, observer),
-        None => false,
-    }
-}
-
-/// Whether the level doesn't flow to the observer, where there is one.
-fn misses(labels: &Labels, observer: LevelId, level: Option<LevelId>) -> bool
-    ensures { result ≡ misses labels.now observer level }
-{
-    match level {
-        Some(level) => !labels::flows(labels, level, observer),
-        None => false,
-    }
-}
-
-/// From which level on observers see what is shown at a method with this label.
-fn shown_at(label: Option<Label>) -> Option<LevelId>
-    ensures { result ≡ shown_at label }
+/// Whether what is shown at a method with this label reaches the observer.
+fn shows(labels: &Labels, observer: LevelId, label: Label) -> bool
+    ensures { result ≡ reaches labels.now observer (shown_at (Some label)) }
 {
     match label {
-        Some(Label::Sink(level)) => Some(level),
-        Some(Label::Release { to, .. }) => Some(to),
-        Some(Label::Source(_)) => None,
-        None => None,
+        Label::Source(_) => false,
+        Label::Sink(level) => labels::flows(labels, level, observer),
+        Label::Release { to, .. } => labels::flows(labels, to, observer),
     }
 }
 
-/// The level of what a method with this label brings in.
-fn brings(label: Option<Label>) -> Option<LevelId>
-    ensures { result ≡ brings label }
+/// Whether what a method with this label brings in is kept from the observer.
+fn hides(labels: &Labels, observer: LevelId, label: Label) -> bool
+    ensures { result ≡ misses labels.now observer (brings (Some label)) }
 {
     match label {
-        Some(Label::Source(level)) => Some(level),
-        Some(Label::Release { to, .. }) => Some(to),
-        Some(Label::Sink(_)) => None,
-        None => None,
+        Label::Source(level) => !labels::flows(labels, level, observer),
+        Label::Sink(_) => false,
+        Label::Release { to, .. } => !labels::flows(labels, to, observer),
     }
 }
 
-/// The level that a release lets out.
-fn lets_out(label: Option<Label>) -> Option<LevelId>
-    ensures { result ≡ lets_out label }
+/// Whether what a release with this label lets out is the observer's to know.
+fn lets_know(labels: &Labels, observer: LevelId, label: Label) -> bool
+    ensures { result ≡ reaches labels.now observer (lets_out (Some label)) }
 {
     match label {
-        Some(Label::Release { from, .. }) => Some(from),
-        Some(Label::Source(_)) => None,
-        Some(Label::Sink(_)) => None,
-        None => None,
+        Label::Source(_) => false,
+        Label::Sink(_) => false,
+        Label::Release { from, .. } => labels::flows(labels, from, observer),
     }
 }
 
@@ -84,8 +61,12 @@ fn label_resolved(labels: &Labels, resolved: Option<MethodId>) -> Option<Label>
 fn is_hidden(labels: &Labels, observer: LevelId, name: &NodeName) -> bool
     ensures { result ≡ is_on Side.Hidden labels.now observer name.now }
 {
+    let label = match label_resolved(labels, name.resolved) {
+        Some(label) => label,
+        None => return false,
+    };
     match name.kind {
-        NodeKind::RetVal(_) => misses(labels, observer, brings(label_resolved(labels, name.resolved))),
+        NodeKind::RetVal(_) => hides(labels, observer, label),
         _ => false,
     }
 }
@@ -93,11 +74,13 @@ fn is_hidden(labels: &Labels, observer: LevelId, name: &NodeName) -> bool
 fn is_observed(labels: &Labels, observer: LevelId, name: &NodeName) -> bool
     ensures { result ≡ is_on Side.Observed labels.now observer name.now }
 {
+    let label = match label_resolved(labels, name.resolved) {
+        Some(label) => label,
+        None => return false,
+    };
     match name.kind {
-        NodeKind::Call(_) => reaches(labels, observer, shown_at(label_resolved(labels, name.resolved))),
-        NodeKind::Arg(_, place) => {
-            place == 0 && reaches(labels, observer, lets_out(label_resolved(labels, name.resolved)))
-        }
+        NodeKind::Call(_) => shows(labels, observer, label),
+        NodeKind::Arg(_, place) => place == 0 && lets_know(labels, observer, label),
         _ => false,
     }
 }
