@@ -51,7 +51,7 @@ module _ (program : Program) (labels : Labels) (graph : Graph) (whole : IsDepend
   walk_ends i a steps at walk = (walk_is_chain [] i a steps at walk).1
 
   -- a chain is a walk
-  chain_is_walk : (calls : List CallSite) (i : ℕ) (a : Node) (links : List Link) → graph_node graph i ≡ Some a → IsChainFrom program labels calls a links
+  pub chain_is_walk : (calls : List CallSite) (i : ℕ) (a : Node) (links : List Link) → graph_node graph i ≡ Some a → IsChainFrom program labels calls a links
       → (steps : List Step) × IsWalk graph i steps × (graph_node graph (walk_end i steps) ≡ Some (end_of a links))
   chain_is_walk calls i a [] at chain = ([], tt, at)
   chain_is_walk calls i a (link ∷ links) at chain =

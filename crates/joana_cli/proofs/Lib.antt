@@ -5,3 +5,5 @@ pub mod PolicyReads
 pub mod PolicySteps
 pub mod Reading
 pub mod ReportLines
+pub mod Sides
+pub mod Verdicts

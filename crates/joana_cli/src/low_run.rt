@@ -1,12 +1,18 @@
 //! What an observer may not depend on and what it may see, and a chain from the one to the other.
-ghost use Rattle.std.specs.Prelude.{◌≡◌, ◌^◌, ◌<◌, IfOk, Some, length};
+ghost use Rattle.std.specs.Prelude.{◌≡◌, ◌^◌, ◌<◌, ℕ, IfOk, IfSome, IfNone, Some, Contains, length};
 ghost use Rattle.jo_prog.specs.Labels.{reaches, misses, shown_at, brings, lets_out};
-ghost use Rattle.joana_cli.specs.Sides.{label_resolved, is_kind_on, is_on, places_from};
+ghost use Rattle.flow_graph.specs.GraphData.{IsDependenceGraph, WalksTo};
+ghost use Rattle.flow_graph.specs.Slices.{HasEdgesInside};
+ghost use Rattle.joana_cli.specs.Outcome.{CleanForAll, Reports};
+ghost use Rattle.joana_cli.specs.Sides.{label_resolved, is_on, places_from, hidden_nodes, observed_nodes, IsForbiddenWalk};
 
+use crate::chain_report;
 use class_read::jo_ids::{LevelId, MethodId, NodeId};
-use flow_graph::dep_nodes::{Graph, NodeName};
+use flow_graph::dep_nodes::{Chain, Graph, NodeName};
 use flow_graph::flow::NodeKind;
+use flow_graph::slicer;
 use jo_prog::labels::{self, Label, Labels};
+use jo_prog::program::Program;
 use std::alloc::{AllocError as Memory, Global};
 
 /// What the observer may not depend on, or what it may see.
@@ -112,4 +118,42 @@ pub fn nodes_on(
         }
     }
     Ok(nodes)
+}
+
+/// A chain of the graph that is illegal for the observer.
+fn chain_for(
+    alloc: Global,
+    labels: &Labels,
+    graph: &Graph,
+    observer: LevelId,
+) -> Result<Option<Chain>, Memory>
+    requires small { length graph.now.nodes < 2 ^ 32 }
+    requires edges { HasEdgesInside graph.now }
+    ensures found { IfOk result (λ o. IfSome o (IsForbiddenWalk labels.now graph.now observer)) }
+    ensures none { IfOk result (λ o. IfNone o ((from : ℕ) → Contains (hidden_nodes labels.now observer graph.now) from
+        → WalksTo graph.now (observed_nodes labels.now observer graph.now) from → ⊥)) }
+{
+    let hidden = nodes_on(alloc, Side::Hidden, labels, observer, graph)?;
+    let observed = nodes_on(alloc, Side::Observed, labels, observer, graph)?;
+    slicer::find_walk(alloc, graph, hidden.as_slice(), observed.as_slice())
+}
+
+/// The report for the first observer that has an illegal chain.
+pub fn refusal(
+    alloc: Global,
+    program: &Program,
+    labels: &Labels,
+    graph: &Graph,
+) -> Result<Option<Vec<u8>>, Memory>
+    requires { IsDependenceGraph program.now labels.now graph.now }
+    ensures clean { IfOk result (λ o. IfNone o (CleanForAll program.now labels.now)) }
+    ensures report { IfOk result (λ o. IfSome o (λ text. Reports program.now labels.now text.items)) }
+{
+    for observer in labels.observers.as_slice() {
+        if let Some(chain) = chain_for(alloc, labels, graph, *observer)? {
+            let text = chain_report::report(alloc, program, labels, graph, *observer, &chain)?;
+            return Ok(Some(text));
+        }
+    }
+    Ok(None)
 }
