@@ -9,4 +9,7 @@ pub mod class_pool;
 pub mod jo_ids;
 pub mod jo_insn;
 pub mod jo_text;
+pub mod laws;
 mod reader;
+
+pub use reader::read_class;
