@@ -1,8 +1,7 @@
 -- Methods and classes: what is read is spelled so, and what is spelled so is read.
-use Rattle.std.proofs.Common.{◌≡◌, ◌↔◌, ℕ, suc, ◌^◌, ◌+◌, ◌-◌, ◌<◌, ◌≤◌, Bool, true, false, cond, ◌==◌, List, [], ◌∷◌, ◌++◌, length, Option, Some, None, Result, Ok, Err, refl, sym, ap, subst, ◌∙◌, append_assoc, arith}
-use Rattle.std.specs.Prelude.{codes, IsTrue}
+use Rattle.std.proofs.Common.{◌≡◌, ℕ, ◌^◌, ◌+◌, ◌-◌, ◌<◌, Bool, true, false, cond, ◌==◌, List, [], ◌∷◌, ◌++◌, length, Option, Some, None, refl, sym, ap, subst, ◌∙◌, append_assoc, arith}
+use Rattle.std.specs.Prelude.{codes}
 use Rattle.std.specs.List.{AllByRecursion}
-use Rattle.std.specs.Str.{bytes_eq}
 use Rattle.std.proofs.lemmas.Bool.{eqb-true}
 use Rattle.std.proofs.lemmas.Bool.Decides.{nat_tests}
 use Rattle.std.proofs.lemmas.List.{append-nil, nil_from_length}
@@ -13,7 +12,7 @@ use Rattle.class_read.specs.declared.class_pool.ClassFile.{ClassFile}
 use Rattle.class_read.specs.declared.class_pool.MethodInfo.{MethodInfo}
 use Rattle.class_read.specs.declared.class_pool.CodeInfo.{CodeInfo}
 use Rattle.class_read.specs.Lists.{u2, u4, SpellsEach}
-use Rattle.class_read.specs.ClassGrammar.{utf8_at, SpellsEntry, SpellsCode, SpellsBody, SpellsMethod, HasBody, IsClass}
+use Rattle.class_read.specs.ClassGrammar.{utf8_at, SpellsEntry, SpellsCode, SpellsBody, SpellsMethod, IsClass}
 use Rattle.class_read.specs.Fitting.{CodeFits, BodyFits, MethodFits, ClassFits}
 use Rattle.class_read.specs.Reading.{◌>>=◌, read_number, read_two, read_three, skip_number, read_bytes, read_many, read_entry, read_code, is_code_name, read_code_attribute, read_body, read_method, read_pool, read_rest, read_whole}
 use Rattle.class_read.proofs.NumberLemmas.{IsBytes, bind_some, unless_some, when_some, Takes, then_takes, wide2, wide4, number_takes, number_again, skip_takes, skip_again, spell_two, Two, two_takes, two_again, spell_three, Three, three_takes, three_again, bytes_take, bytes_again, Reads, many_take, many_again}

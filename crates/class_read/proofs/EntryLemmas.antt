@@ -1,5 +1,5 @@
 -- Pool entries: what is read is spelled so, and what is spelled so is read.
-use Rattle.std.proofs.Common.{◌≡◌, ℕ, suc, ◌^◌, ◌+◌, ◌<◌, ◌≤◌, Bool, true, false, cond, ◌==◌, ◌&&◌, List, [], ◌∷◌, ◌++◌, length, Option, Some, None, refl, sym, ap, subst, ◌∙◌, append_assoc, arith}
+use Rattle.std.proofs.Common.{◌≡◌, ℕ, suc, ◌^◌, ◌<◌, Bool, true, false, cond, ◌==◌, ◌&&◌, List, [], ◌∷◌, ◌++◌, length, Some, None, refl, sym, ap, subst, ◌∙◌, arith}
 use Rattle.std.specs.List.{list_all, AllByRecursion}
 use Rattle.std.proofs.lemmas.Bool.{eqb-true}
 use Rattle.std.proofs.lemmas.Bool.Decides.{nat_tests}
@@ -9,7 +9,7 @@ use Rattle.class_read.specs.declared.class_pool.PoolEntry.TheVariants.{Second, U
 use Rattle.class_read.specs.Lists.{u2}
 use Rattle.class_read.specs.ClassGrammar.{IsPlainByte, SpellsEntry}
 use Rattle.class_read.specs.Reading.{◌>>=◌, read_number, read_two, read_bytes, is_plain_byte, read_utf8, read_class_entry, read_method_ref, read_name_and_type, read_entry}
-use Rattle.class_read.proofs.NumberLemmas.{IsBytes, bind_some, when_some, Takes, then_takes, wide2, number_takes, number_again, spell_two, Two, two_takes, two_again, bytes_take, bytes_again, Reads}
+use Rattle.class_read.proofs.NumberLemmas.{IsBytes, bind_some, when_some, then_takes, wide2, number_takes, number_again, spell_two, Two, two_takes, two_again, bytes_take, bytes_again, Reads}
 
 both_true : (x y : Bool) → (x && y) ≡ true → (x ≡ true) × (y ≡ true)
 both_true true y e = (refl, e)

@@ -1,4 +1,4 @@
-use Rattle.std.proofs.Common.{sym, arith}
+use Rattle.std.proofs.Common.{arith}
 use Rattle.class_read.proofs.ClassLemmas.{is_class, none_is_read, none_fits}
 use Rattle.class_read.proofs.reader.read_class.Goals as goal
 
