@@ -1,6 +1,6 @@
 -- The functions of `TextScan` read what `Text` defines, and nothing else.
-use Rattle.std.proofs.Common.{◌≡◌, ◌⊎◌, ℕ, zero, suc, ◌+◌, ◌<◌, ◌≤◌, Bool, true, false, cond, eqb, not, ◌&&◌, ◌||◌, ◌==◌, List, [], ◌∷◌, ◌++◌, length, get_or, take, drop, refl, sym, ap, subst, ◌∙◌, append_assoc, inl, inr, ⊎_elim, arith}
-use Rattle.std.specs.Prelude.{codes, IsTrue, ◌↔◌, MatchOption, Option, Some, None, option_and_then, position, nat_lt, replicate}
+use Rattle.std.proofs.Common.{◌≡◌, ℕ, zero, suc, ◌+◌, ◌<◌, ◌≤◌, Bool, true, false, cond, eqb, not, ◌&&◌, ◌||◌, ◌==◌, List, [], ◌∷◌, ◌++◌, length, get_or, take, drop, refl, sym, ap, subst, ◌∙◌, append_assoc, inl, inr, ⊎_elim, arith}
+use Rattle.std.specs.Prelude.{codes, IsTrue, ◌↔◌, MatchOption, Option, Some, None, position, nat_lt, replicate}
 use Rattle.std.specs.List.{list_any, prefix_len, position_or_len, concat, AllByRecursion}
 use Rattle.std.proofs.lemmas.Bool.{eqb-true}
 use Rattle.std.proofs.lemmas.List.{append-nil}
@@ -345,10 +345,6 @@ or_array bs (Some rest) result e h =
     rw is (array_tested rest result (rw is at h))
 
 -- ---- the parentheses of a method descriptor
-
--- what the tests of a method descriptor's parts say of it
-pub no_open : (bs : List ℕ) → None ≡ after_byte 40 bs → IsTrue false ↔ IsMethodDesc bs
-no_open bs h = (λ e. absurd cc, λ d. absurd (byte_missing 40 bs (concat d.0 ++ 41 ∷ d.1) (sym h) d.2))
 
 method_ends : (bs params : List ℕ) → Some params ≡ after_byte 40 bs → IsMethodDesc bs ↔ EndsMethodDesc params
 method_ends bs params h =

@@ -1,11 +1,13 @@
 //! The reader of class files. It first reads what the bytes spell, and then tests what the grammar asks of that.
-ghost use Rattle.std.specs.Prelude.{◌≡◌, ◌+◌};
+ghost use Rattle.std.specs.Prelude.{◌≡◌, ◌+◌, IfOk, IfSome, IfNone};
 ghost use Rattle.std.specs.List.{list_all};
 ghost use Rattle.class_read.specs.Reading.{Gives, is_plain_byte, is_code_name, read_number, read_two, read_three, skip_number, read_bytes, read_many, read_utf8, read_class_entry, read_method_ref, read_name_and_type, read_entry, read_code, read_code_attribute, read_body, read_method, read_pool, read_rest, read_whole};
-ghost use Rattle.class_read.specs.ClassGrammar.{utf8_at};
+ghost use Rattle.class_read.specs.ClassGrammar.{utf8_at, IsClass};
+ghost use Rattle.class_read.specs.declared.class_pool.ClassFile.{ClassFile};
 
+use crate::checks::class_fits;
 use crate::class_pool::{ClassFile, CodeInfo, MethodInfo, Pool, PoolEntry, utf8_at};
-use crate::jo_ids::List;
+use crate::jo_ids::{List, Memory};
 use crate::jo_text::Name;
 use byteorder::{BigEndian, ByteOrder};
 use std::alloc::{AllocError, Global};
@@ -341,4 +343,23 @@ fn whole(alloc: Global, bytes: &[u8]) -> Result<ClassFile, Refusal>
     let (version, rest) = two_u2(rest)?;
     let (pool, rest) = pool(alloc, rest)?;
     rest_of_class(alloc, version, pool, rest)
+}
+
+/// The class that the bytes spell, all of the bytes. `None` says that they are those of no class; an error that memory
+/// ran out.
+pub fn read_class(alloc: Global, bytes: &[u8]) -> Result<Option<ClassFile>, Memory>
+    ensures class { IfOk result (λ found. IfSome found (λ c. IsClass bytes.now c)) }
+    ensures none { IfOk result (λ found. IfNone found ((c : ClassFile) → IsClass bytes.now c → ⊥)) }
+{
+    match whole(alloc, bytes) {
+        Ok(class) => {
+            if class_fits(&class) {
+                Ok(Some(class))
+            } else {
+                Ok(None)
+            }
+        }
+        Err(Refusal::NoClass) => Ok(None),
+        Err(Refusal::Memory) => Err(AllocError),
+    }
 }
