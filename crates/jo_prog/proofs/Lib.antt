@@ -2,4 +2,5 @@ pub mod Decoding
 pub mod Flows
 pub mod IntShapeLemmas
 pub mod PlainPaths
+pub mod RunningLemmas
 pub mod TypingPaths
