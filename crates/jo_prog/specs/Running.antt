@@ -1,5 +1,5 @@
 -- The state of a run whose one thread has one frame, whose values are ints, or has ended.
-use Rattle.std.specs.Prelude.{ℕ, ℤ, Bool, true, false, List, [], ◌∷◌, ◌++◌, map, reverse, Option, Some, None, option_map}
+use Rattle.std.specs.Prelude.{ℕ, ℤ, Bool, true, false, List, [], ◌∷◌, ◌++◌, map, reverse, Option, None, option_map}
 use Rattle.class_read.specs.declared.jo_insn.Operation.{Operation}
 use Rattle.jo_prog.specs.declared.labels.Label.{Label}
 use Rattle.jo_prog.specs.declared.runner.RunState.{RunState}
@@ -7,7 +7,7 @@ use Rattle.jo_prog.specs.declared.runs.SourceInput.{SourceInput}
 use Rattle.jo_prog.specs.declared.runs.Event.{Event}
 use Rattle.jo_prog.specs.declared.runs.Trace.{Trace}
 use Rattle.jo_prog.specs.Values.{Value, int}
-use Rattle.jo_prog.specs.Machine.{Frame, Thread, State, Stepped, info_at, fetched, execute, silent, called, after_call}
+use Rattle.jo_prog.specs.Machine.{Frame, State, Stepped, info_at, fetched, execute, silent, called, after_call}
 use Rattle.jo_prog.specs.Runs.{unmoved}
 
 -- the stack's top stands last in a run's state, and first in a frame

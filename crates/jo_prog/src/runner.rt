@@ -1,6 +1,6 @@
 //! Runs a program: one thread, whose code calls labelled natives alone.
 ghost use Rattle.std.specs.Prelude.{◌≡◌, ℕ, ◌+◌, ◌<◌, ◌≤◌, ◌^◌, List, false, Some, All, IfOk, IfSome, IfNone, OnOk, ◌++◌, ◌∷◌, [], length, slice_get, slice_set, replicate, None};
-ghost use Rattle.std.specs.Option.{option_flatten};
+ghost use Rattle.std.specs.Option.{option_flatten, option_to_list};
 ghost use Rattle.class_read.specs.declared.jo_insn.Operation.TheVariants.{Constant, Load, Store, Add, Subtract, Return};
 ghost use Rattle.jo_prog.specs.declared.labels.Label.TheVariants.{Source, Sink, Release};
 ghost use Rattle.jo_prog.specs.declared.runs.SourceInput.{SourceInput};
@@ -262,4 +262,51 @@ impl RunState {
             Ok(None)
         }
     }
+
+    /// What a number of the schedule does. There is one thread, so every number picks it.
+    fn advance(
+        &mut self,
+        program: &Program,
+        labels: &Labels,
+        inputs: &[SourceInput],
+    ) -> Result<Option<Event>, Memory>
+        requires { All (λ c. c + 1 < 2 ^ 64) self.old.cursors.items }
+        ensures { IfOk result (λ event. (number : ℕ) → advanced program.now labels.now inputs.now (state_of self.old) number ≡ record { state = state_of self.new; event = event }) }
+    {
+        if self.has_ended {
+            return Ok(None);
+        }
+        self.step(program, labels, inputs)
+    }
+}
+
+fn add_shown(events: &mut List<Event>, shown: Option<Event>) -> Result<(), Memory>
+    ensures { OnOk result (events.new ≡ events.old ++ option_to_list shown) }
+{
+    match shown {
+        Some(event) => add(events, event),
+        None => Ok(()),
+    }
+}
+
+/// The run of a program with these inputs and this schedule.
+pub fn run(
+    alloc: Global,
+    program: &Program,
+    labels: &Labels,
+    inputs: &Inputs,
+    schedule: &[u32],
+) -> Result<Trace, Memory>
+    ensures { IfOk result (λ trace. trace ≡ run program.now labels.now inputs.now schedule.now) }
+{
+    let mut state = RunState::at_start(alloc, program, labels)?;
+    let mut events = List::new(alloc);
+    for _number in schedule {
+        let shown = state.advance(program, labels, inputs.as_slice())?;
+        add_shown(&mut events, shown)?;
+    }
+    Ok(Trace {
+        events,
+        ended: state.has_ended,
+    })
 }

@@ -1,8 +1,6 @@
-use Rattle.std.proofs.Common.{arith, map, ℤ, Option, Some}
-use Rattle.std.specs.Prelude.{option_map}
+use Rattle.std.proofs.Common.{arith}
 use Rattle.std.proofs.lemmas.Grind.{common_steps}
 use Rattle.std.proofs.lemmas.List.{map-set}
-use Rattle.jo_prog.specs.Values.{int}
 use Rattle.jo_prog.proofs.runner.RunState.store.Goals as goal
 
 pub returns-in-Some : goal.returns-in-Some
