@@ -8,3 +8,5 @@ pub mod linker;
 pub mod program;
 pub mod runner;
 pub mod runs;
+#[cfg(test)]
+mod tests;
