@@ -5,6 +5,7 @@
 use crate::jvm_typing::{is_plain, is_typed};
 use crate::labels::{Label, Labels};
 use crate::linker::{add, link};
+use crate::program::Program;
 use crate::runner::run;
 use crate::runs::{Event, Inputs, SourceInput, Trace};
 use class_read::class_pool::{ClassFile, CodeInfo, MethodInfo, Pool, PoolEntry};
@@ -108,7 +109,7 @@ fn labels(alloc: Global) -> Result<Labels, Memory> {
     let mut flows = List::new(alloc);
     add(&mut flows, (0, 1))?;
     let mut observers = List::new(alloc);
-    add(&mut observers, low)?;
+    add(&mut observers, LevelId::of(0))?;
     let mut labelled = List::new(alloc);
     add(&mut labelled, (MethodId::of(0), Label::Source(high)))?;
     add(&mut labelled, (MethodId::of(1), Label::Source(low)))?;
@@ -153,12 +154,25 @@ fn shown(trace: &Trace) -> Result<Option<(u32, i32)>, Fail> {
     match trace.events.as_slice() {
         [] => Ok(None),
         [Event::Out { sink, value }] => Ok(Some((sink.number(), *value))),
-        _ => Err("more events, or a release")?,
+        _ => Err("more than one event, or a release")?,
     }
 }
 
+/// What a run of the program shows, and whether it ended.
+fn outcome(
+    alloc: Global,
+    program: &Program,
+    got: Option<i32>,
+    schedule: &[u32],
+) -> Result<(Option<(u32, i32)>, bool), Fail> {
+    let labels = labels(alloc)?;
+    let inputs = inputs(alloc, got)?;
+    let trace = run(alloc, program, &labels, &inputs, schedule)?;
+    Ok((shown(&trace)?, trace.ended))
+}
+
 #[test]
-fn runs_a_class(rt: HostRuntime) -> Result<(), Fail> {
+fn links_and_types_a_class(rt: HostRuntime) -> Result<(), Fail> {
     let alloc = rt.alloc();
     let class = class(alloc)?;
     assert_eq!(rt; class.methods.as_slice().len(), 4);
@@ -166,18 +180,24 @@ fn runs_a_class(rt: HostRuntime) -> Result<(), Fail> {
     let labels = labels(alloc)?;
     assert!(rt; is_plain(&program, &labels));
     assert!(rt; is_typed(alloc, &program, &labels)?);
+    Ok(())
+}
+
+#[test]
+fn runs_a_class(rt: HostRuntime) -> Result<(), Fail> {
+    let class = class(rt.alloc())?;
+    assert_eq!(rt; class.methods.as_slice().len(), 4);
+    let program = link(rt.alloc(), &class)?;
     let numbers = [0, 7, 1, 4294967295, 2, 0, 3, 5, 0, 1];
-    for (got, steps, want, ended) in [
-        (Some(5), numbers.as_slice(), Some((2, 6)), true),
-        (Some(5), &numbers[..9], Some((2, 6)), true),
-        (Some(5), &numbers[..7], None, false),
-        (Some(2147483647), &numbers[..], Some((2, -2147483648)), true),
-        (None, &numbers[..], Some((2, 1)), true),
+    for (got, steps, want) in [
+        (Some(5), 10, (Some((2, 6)), true)),
+        (Some(5), 9, (Some((2, 6)), true)),
+        (Some(5), 7, (None, false)),
+        (Some(2147483647), 9, (Some((2, -2147483648)), true)),
+        (None, 9, (Some((2, 1)), true)),
     ] {
-        let inputs = inputs(alloc, got)?;
-        let trace = run(alloc, &program, &labels, &inputs, steps)?;
-        assert_eq!(rt; shown(&trace)?, want, "at {got:?}");
-        assert_eq!(rt; trace.ended, ended, "at {got:?}");
+        let schedule = numbers.get(..steps).ok_or("too many steps")?;
+        assert_eq!(rt; outcome(rt.alloc(), &program, got, schedule)?, want);
     }
     Ok(())
 }
