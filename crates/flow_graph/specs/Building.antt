@@ -10,6 +10,9 @@ use Rattle.flow_graph.specs.declared.dep_nodes.NodeName.{NodeName}
 use Rattle.flow_graph.specs.declared.dep_nodes.Edge.{Edge}
 use Rattle.flow_graph.specs.declared.sdg.Definitions.{Definitions}
 use Rattle.flow_graph.specs.declared.sdg.SourceResult.{SourceResult}
+use Rattle.flow_graph.specs.declared.sdg.Builder.{Builder}
+use Rattle.flow_graph.specs.Flow.{reads_of, writes_of}
+use Rattle.flow_graph.specs.declared.flow.NodeKind.TheVariants.{Instr, Call, RetVal, Arg}
 use Rattle.flow_graph.specs.GraphData.{edge}
 
 -- the number of the node that wrote a place last
@@ -59,3 +62,30 @@ control_edges node = edge 0 Control node ∷ []
 abbrev pub heap_edges : List SourceResult → ℕ → ℕ → List Edge
 heap_edges [] source node = []
 heap_edges (r ∷ rs) source node = (if r.source == source then edge r.node Heap node ∷ edge node Heap r.node ∷ [] else []) ++ heap_edges rs source node
+
+-- an instruction that is no call adds its node and its edges, and writes its places
+pub record AddsInstruction (old new : Builder) (method pc : ℕ) (operation : Operation) (height : ℕ) : Type 0 where
+  pub nodes : new.nodes ≡ old.nodes ++ name_of method (Instr pc) None ∷ []
+  pub edges : new.edges ≡ old.edges ++ control_edges (length old.nodes) ++ uses_edges old.definitions (reads_of operation height) (length old.nodes) ++ out_edges operation (length old.nodes)
+  pub definitions : AreWritten old.definitions new.definitions (writes_of operation height) (length old.nodes)
+  pub results : new.results ≡ old.results
+
+-- the node of a source's result stands behind that of its call
+abbrev pub result_of : List NodeName → ℕ → SourceResult
+result_of nodes source = record { source = source; node = length nodes + 1 }
+
+-- the call of a source adds its nodes and its edges, and its result
+pub record AddsSource (old new : Builder) (method pc source height : ℕ) : Type 0 where
+  pub nodes : new.nodes ≡ old.nodes ++ name_of method (Call pc) (Some source) ∷ [] ++ name_of method (RetVal pc) (Some source) ∷ []
+  pub edges : new.edges ≡ old.edges ++ control_edges (length old.nodes) ++ control_edges (length old.nodes + 1) ++ heap_edges old.results source (length old.nodes + 1)
+      ++ edge (length old.nodes + 1) Heap (length old.nodes + 1) ∷ []
+  pub definitions : AreWritten old.definitions new.definitions (Stack height ∷ []) (length old.nodes + 1)
+  pub results : new.results ≡ old.results ++ result_of old.nodes source ∷ []
+
+-- the call of a sink adds its nodes and its edges
+pub record AddsSink (old new : Builder) (method pc sink height : ℕ) : Type 0 where
+  pub nodes : new.nodes ≡ old.nodes ++ name_of method (Call pc) (Some sink) ∷ [] ++ name_of method (Arg pc 0) (Some sink) ∷ [] ++ name_of method (RetVal pc) (Some sink) ∷ []
+  pub edges : new.edges ≡ old.edges ++ control_edges (length old.nodes) ++ use_edges (definition_of old.definitions (Stack (height - 1))) (length old.nodes + 1)
+      ++ edge (length old.nodes + 1) Data (length old.nodes) ∷ [] ++ control_edges (length old.nodes + 2)
+  pub definitions : new.definitions ≡ old.definitions
+  pub results : new.results ≡ old.results

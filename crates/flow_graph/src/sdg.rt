@@ -3,7 +3,7 @@ ghost use Rattle.std.specs.Prelude.{◌≡◌, ◌≢◌, ℕ, ◌+◌, ◌-◌,
 ghost use Rattle.flow_graph.specs.Flow.{reads_of, writes_of};
 ghost use Rattle.flow_graph.specs.declared.flow.Place.{Place as APlace};
 ghost use Rattle.flow_graph.specs.GraphData.{edge};
-ghost use Rattle.flow_graph.specs.Building.{definition_of, HasPlace, SameSizes, AreWritten, name_of, use_edges, uses_edges, out_edges, control_edges, heap_edges};
+ghost use Rattle.flow_graph.specs.Building.{definition_of, HasPlace, SameSizes, AreWritten, name_of, use_edges, uses_edges, out_edges, control_edges, heap_edges, AddsInstruction, AddsSource, AddsSink};
 
 use crate::dep_nodes::{Edge, EdgeKind, NodeName, SiteList};
 use crate::flow::{NodeKind, Place};
@@ -176,4 +176,69 @@ fn add_heap(edges: &mut List<Edge>, results: &[SourceResult], source: MethodId, 
         }
     }
     Ok(())
+}
+
+/// What the walk has made so far. The first four nodes are Entry, Exit, Kind and Thrown.
+#[derive(Drop)]
+struct Builder {
+    nodes: List<NodeName>,
+    edges: List<Edge>,
+    definitions: Definitions,
+    results: List<SourceResult>,
+}
+
+impl Builder {
+    /// Adds an instruction that is no call.
+    fn add_instruction(&mut self, method: MethodId, pc: u32, operation: Operation, height: u16) -> Result<(), Memory>
+        requires few { length self.old.nodes < 2 ^ 32 }
+        requires places { (v : APlace) → Contains (writes_of operation height) v → HasPlace self.old.definitions v }
+        ensures { OnOk result (AddsInstruction self.old self.new method pc operation height) }
+    {
+        let node = add_node(&mut self.nodes, method, NodeKind::Instr(pc), None)?;
+        add_control(&mut self.edges, node)?;
+        add_uses(&mut self.edges, &self.definitions, operation, height, node)?;
+        add_out(&mut self.edges, operation, node)?;
+        self.definitions.define_written(operation, height, node);
+        Ok(())
+    }
+
+    /// Adds the call of a source.
+    fn add_source(&mut self, method: MethodId, pc: u32, source: MethodId, height: u16) -> Result<(), Memory>
+        requires few { length self.old.nodes + 1 < 2 ^ 32 }
+        requires place { HasPlace self.old.definitions (Place.Stack height) }
+        ensures { OnOk result (AddsSource self.old self.new method pc source height) }
+    {
+        let call = add_node(&mut self.nodes, method, NodeKind::Call(pc), Some(source))?;
+        let node = add_node(&mut self.nodes, method, NodeKind::RetVal(pc), Some(source))?;
+        add_control(&mut self.edges, call)?;
+        add_control(&mut self.edges, node)?;
+        add_heap(&mut self.edges, self.results.as_slice(), source, node)?;
+        add_edge(&mut self.edges, node, EdgeKind::Heap, node)?;
+        self.definitions.define(Place::Stack(height), node);
+        push_result(&mut self.results, SourceResult { source, node })
+    }
+
+    /// Adds the call of a sink.
+    fn add_sink(&mut self, method: MethodId, pc: u32, sink: MethodId, height: u16) -> Result<(), Memory>
+        requires few { length self.old.nodes + 2 < 2 ^ 32 }
+        ensures { OnOk result (AddsSink self.old self.new method pc sink height) }
+    {
+        let call = add_node(&mut self.nodes, method, NodeKind::Call(pc), Some(sink))?;
+        let shown = add_node(&mut self.nodes, method, NodeKind::Arg(pc, 0), Some(sink))?;
+        let node = add_node(&mut self.nodes, method, NodeKind::RetVal(pc), Some(sink))?;
+        let definition = self.definitions.of(Place::Stack(height.saturating_sub(1)));
+        add_control(&mut self.edges, call)?;
+        add_use(&mut self.edges, definition, shown)?;
+        add_edge(&mut self.edges, shown, EdgeKind::Data, call)?;
+        add_control(&mut self.edges, node)
+    }
+}
+
+fn push_result(results: &mut List<SourceResult>, of_source: SourceResult) -> Result<(), Memory>
+    ensures { OnOk result (results.new ≡ results.old ++ of_source ∷ []) }
+{
+    match results.push(of_source) {
+        Ok(()) => Ok(()),
+        Err((_, memory)) => Err(memory),
+    }
 }
