@@ -5,3 +5,4 @@ pub mod PlainReaching
 pub mod BuildingLemmas
 pub mod NodeLists
 pub mod PlainSteps
+pub mod PlainCalls
