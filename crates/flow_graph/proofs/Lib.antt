@@ -6,3 +6,4 @@ pub mod BuildingLemmas
 pub mod NodeLists
 pub mod PlainSteps
 pub mod PlainCalls
+pub mod PlainTyping

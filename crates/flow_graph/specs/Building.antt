@@ -1,7 +1,10 @@
 -- What the walk over plain code adds to a graph, an instruction at a time.
-use Rattle.std.specs.Prelude.{◌≡◌, ℕ, ◌+◌, ◌-◌, ◌<◌, ◌==◌, if◌then◌else◌, List, [], ◌∷◌, ◌++◌, length, Option, Some, None, Contains, slice_index_or, slice_get, option_map}
+use Rattle.std.specs.Prelude.{◌≡◌, ℕ, ◌+◌, ◌-◌, ◌^◌, ◌<◌, Bool, true, false, ◌==◌, if◌then◌else◌, List, [], ◌∷◌, ◌++◌, length, Option, Some, None, Contains, slice_index_or, slice_get, option_map}
 use Rattle.class_read.specs.declared.jo_insn.Operation.{Operation}
-use Rattle.class_read.specs.declared.jo_insn.Operation.TheVariants.{Return}
+use Rattle.class_read.specs.declared.jo_insn.Operation.TheVariants.{Constant, Load, Store, Add, Subtract, InvokeStatic, Return, Other}
+use Rattle.jo_prog.specs.declared.program.Program.{Program}
+use Rattle.jo_prog.specs.declared.program.Code.{Code}
+use Rattle.jo_prog.specs.Program.{code_at}
 use Rattle.flow_graph.specs.declared.flow.Place.{Place}
 use Rattle.flow_graph.specs.declared.flow.Place.TheVariants.{Local, Stack, Pending}
 use Rattle.flow_graph.specs.declared.flow.NodeKind.{NodeKind}
@@ -89,3 +92,26 @@ pub record AddsSink (old new : Builder) (method pc sink height : ℕ) : Type 0 w
       ++ edge (length old.nodes + 1) Data (length old.nodes) ∷ [] ++ control_edges (length old.nodes + 2)
   pub definitions : new.definitions ≡ old.definitions
   pub results : new.results ≡ old.results
+
+-- the height of the stack behind an operation that is no call
+abbrev pub height_after : Operation → ℕ → ℕ
+height_after (Constant z) height = height + 1
+height_after (Load k) height = height + 1
+height_after (Store k) height = height - 1
+height_after Add height = height - 1
+height_after Subtract height = height - 1
+height_after (InvokeStatic k) height = height
+height_after Return height = height
+height_after Other height = height
+
+abbrev pub is_call : Operation → Bool
+is_call (InvokeStatic k) = true
+is_call _ = false
+
+abbrev pub is_return : Operation → Bool
+is_return Return = true
+is_return _ = false
+
+-- the lengths of an entry's code, which a class file gives in two bytes each
+abbrev pub HasShortCode : Program → ℕ → Type 0
+HasShortCode program m = (code : Code) → code_at program m ≡ Some code → (length code.bytes < 2 ^ 16) × (code.max_stack < 2 ^ 16) × (code.max_locals < 2 ^ 16)

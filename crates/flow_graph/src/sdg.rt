@@ -1,14 +1,17 @@
 //! Builds the dependence graph of a program of plain code, by one walk over its line of instructions.
-ghost use Rattle.std.specs.Prelude.{◌≡◌, ◌≢◌, ℕ, ◌+◌, ◌-◌, ◌*◌, ◌<◌, ◌≤◌, ◌^◌, List as Items, [], ◌∷◌, ◌++◌, length, Contains, IfOk, OnOk, replicate, slice_index_or};
+ghost use Rattle.std.specs.Prelude.{◌≡◌, ◌≢◌, ℕ, ◌+◌, ◌-◌, ◌*◌, ◌<◌, ◌≤◌, ◌^◌, List as Items, [], ◌∷◌, ◌++◌, length, Contains, IfOk, OnOk, true, replicate, slice_index_or};
 ghost use Rattle.flow_graph.specs.Flow.{reads_of, writes_of};
 ghost use Rattle.flow_graph.specs.declared.flow.Place.{Place as APlace};
+ghost use Rattle.jo_prog.specs.Labels.{label_of};
+ghost use Rattle.flow_graph.specs.Graph.{is_source, is_sink};
 ghost use Rattle.flow_graph.specs.GraphData.{edge};
-ghost use Rattle.flow_graph.specs.Building.{definition_of, HasPlace, SameSizes, AreWritten, name_of, use_edges, uses_edges, out_edges, control_edges, heap_edges, AddsInstruction, AddsSource, AddsSink};
+ghost use Rattle.flow_graph.specs.Building.{definition_of, HasPlace, SameSizes, AreWritten, name_of, use_edges, uses_edges, out_edges, control_edges, heap_edges, AddsInstruction, AddsSource, AddsSink, height_after, is_call, is_return};
 
 use crate::dep_nodes::{Edge, EdgeKind, NodeName, SiteList};
 use crate::flow::{NodeKind, Place};
 use class_read::jo_ids::{List, Memory, MethodId, NodeId, SiteId};
 use class_read::jo_insn::Operation;
+use jo_prog::labels::{Label, Labels, label_of};
 use std::alloc::Global;
 
 /// The node that wrote each place last, for each local and for each height of the stack.
@@ -240,5 +243,63 @@ fn push_result(results: &mut List<SourceResult>, of_source: SourceResult) -> Res
     match results.push(of_source) {
         Ok(()) => Ok(()),
         Err((_, memory)) => Err(memory),
+    }
+}
+
+/// The height of the stack behind an operation that is no call.
+fn height_after(operation: Operation, height: u16) -> u16
+    requires { height_after operation height < 2 ^ 16 }
+    ensures { result ≡ height_after operation height }
+{
+    match operation {
+        Operation::Constant(_) | Operation::Load(_) => height + 1,
+        Operation::Store(_) | Operation::Add | Operation::Subtract => height.saturating_sub(1),
+        Operation::InvokeStatic(_) | Operation::Return | Operation::Other => height,
+    }
+}
+
+fn is_call(operation: Operation) -> bool
+    ensures { result ≡ is_call operation }
+{
+    match operation {
+        Operation::InvokeStatic(_) => true,
+        _ => false,
+    }
+}
+
+fn is_return(operation: Operation) -> bool
+    ensures { result ≡ is_return operation }
+{
+    match operation {
+        Operation::Return => true,
+        _ => false,
+    }
+}
+
+impl Builder {
+    /// Adds a call, and gives the height of the stack behind it. Plain code calls sources and sinks alone.
+    fn add_call(&mut self, labels: &Labels, method: MethodId, pc: u32, callee: Option<MethodId>, height: u16) -> Result<u16, Memory>
+        requires few { length self.old.nodes + 2 < 2 ^ 32 }
+        requires place { (s : ℕ) → callee ≡ Some s → is_source (label_of labels.now s) ≡ true
+            → HasPlace self.old.definitions (Place.Stack height) × (height + 1 < 2 ^ 16) }
+        ensures source { IfOk result (λ after. (s : ℕ) → callee ≡ Some s → is_source (label_of labels.now s) ≡ true
+            → AddsSource self.old self.new method pc s height × (after ≡ height + 1)) }
+        ensures sink { IfOk result (λ after. (s : ℕ) → callee ≡ Some s → is_sink (label_of labels.now s) ≡ true
+            → AddsSink self.old self.new method pc s height × (after ≡ height - 1)) }
+    {
+        let Some(named) = callee else {
+            return Ok(height);
+        };
+        match label_of(labels, named) {
+            Some(Label::Source(_)) => {
+                self.add_source(method, pc, named, height)?;
+                Ok(height + 1)
+            }
+            Some(Label::Sink(_)) => {
+                self.add_sink(method, pc, named, height)?;
+                Ok(height.saturating_sub(1))
+            }
+            _ => Ok(height),
+        }
     }
 }
