@@ -7,3 +7,4 @@ pub mod NodeLists
 pub mod PlainSteps
 pub mod PlainCalls
 pub mod PlainTyping
+pub mod PlainWalk

@@ -1,5 +1,5 @@
 -- What the walk over plain code adds to a graph, an instruction at a time.
-use Rattle.std.specs.Prelude.{◌≡◌, ℕ, ◌+◌, ◌-◌, ◌^◌, ◌<◌, Bool, true, false, ◌==◌, if◌then◌else◌, List, [], ◌∷◌, ◌++◌, length, Option, Some, None, Contains, slice_index_or, slice_get, option_map}
+use Rattle.std.specs.Prelude.{◌≡◌, ℕ, ◌+◌, ◌-◌, ◌^◌, ◌<◌, Bool, true, false, ◌==◌, if◌then◌else◌, List, [], ◌∷◌, ◌++◌, length, replicate, Option, Some, None, Contains, slice_index_or, slice_get, option_map}
 use Rattle.class_read.specs.declared.jo_insn.Operation.{Operation}
 use Rattle.class_read.specs.declared.jo_insn.Operation.TheVariants.{Constant, Load, Store, Add, Subtract, InvokeStatic, Return, Other}
 use Rattle.jo_prog.specs.declared.program.Program.{Program}
@@ -15,7 +15,7 @@ use Rattle.flow_graph.specs.declared.sdg.Definitions.{Definitions}
 use Rattle.flow_graph.specs.declared.sdg.SourceResult.{SourceResult}
 use Rattle.flow_graph.specs.declared.sdg.Builder.{Builder}
 use Rattle.flow_graph.specs.Flow.{reads_of, writes_of}
-use Rattle.flow_graph.specs.declared.flow.NodeKind.TheVariants.{Instr, Call, RetVal, Arg}
+use Rattle.flow_graph.specs.declared.flow.NodeKind.TheVariants.{Entry, Exit, Instr, Call, RetVal, Arg, Kind, Thrown}
 use Rattle.flow_graph.specs.GraphData.{edge}
 
 -- the number of the node that wrote a place last
@@ -115,3 +115,15 @@ is_return _ = false
 -- the lengths of an entry's code, which a class file gives in two bytes each
 abbrev pub HasShortCode : Program → ℕ → Type 0
 HasShortCode program m = (code : Code) → code_at program m ≡ Some code → (length code.bytes < 2 ^ 16) × (code.max_stack < 2 ^ 16) × (code.max_locals < 2 ^ 16)
+
+-- the nodes that every graph has, in the order of their numbers
+abbrev pub start_nodes : ℕ → List NodeName
+start_nodes method = name_of method Entry None ∷ name_of method Exit None ∷ name_of method Kind None ∷ name_of method Thrown None ∷ []
+
+-- a builder as the walk begins
+pub record IsStart (new : Builder) (method max_locals max_stack : ℕ) : Type 0 where
+  pub nodes : new.nodes ≡ start_nodes method
+  pub edges : new.edges ≡ []
+  pub locals : new.definitions.locals.items ≡ replicate max_locals None
+  pub stack : new.definitions.stack.items ≡ replicate max_stack None
+  pub results : new.results ≡ []
