@@ -3,7 +3,7 @@ use Rattle.std.proofs.Common.{◌≡◌, ◌≢◌, ◌⊎◌, inl, inr, ℕ, ze
 use Rattle.std.specs.List.{AllByRecursion}
 use Rattle.std.proofs.lemmas.Bool.{cases_eq, cases_lt, false≢true, true≢false}
 use Rattle.std.proofs.lemmas.Option.{none-some, same_Some}
-use Rattle.std.proofs.lemmas.List.{length-replicate, get_or-replicate, get_or_past}
+use Rattle.std.proofs.lemmas.List.{length-replicate, get_or-replicate, get_or_past, length_push}
 use Rattle.class_read.specs.declared.jo_insn.Operation.{Operation}
 use Rattle.class_read.specs.declared.jo_insn.Operation.TheVariants.{Constant, Load, Store, Add, Subtract, InvokeStatic, Return, Other}
 use Rattle.jo_prog.specs.declared.program.Program.{Program}
@@ -12,7 +12,7 @@ use Rattle.jo_prog.specs.declared.labels.Labels.{Labels}
 use Rattle.jo_prog.specs.Labels.{label_of}
 use Rattle.jo_prog.specs.Program.{code_at, operation_at, callee_at}
 use Rattle.jo_prog.specs.PlainCode.{IsLabelledNative, goes_on, IsPlainFrom, IsPlainProgram}
-use Rattle.jo_prog.specs.Typing.{Shape, shape_at_start, Arrives, at_start, IsTypedCode, HasHeight}
+use Rattle.jo_prog.specs.Typing.{Shape, shape_after, shape_at_start, Arrives, at_start, IsTypedCode, HasHeight}
 use Rattle.jo_prog.proofs.Decoding.{operation_at-next}
 use Rattle.jo_prog.proofs.PlainPaths.{plain-on, plain-some}
 use Rattle.flow_graph.specs.declared.flow.Place.{Place}
@@ -357,3 +357,131 @@ module _ (program : Program) (labels : Labels) (pc next height : ℕ) (operation
         each_edge = λ x y kind is. all.each_edge x y kind is (low x (edge_from program labels x y kind is)) (low y (edge_to program labels x y kind is));
         only_edges = λ i j kind is. all.only_edges (record { from = i; kind = kind; to = j }) is
       }
+
+  -- the call of a source
+  pub walked_source : (after : Builder) (s : ℕ) → is_call operation ≡ true → callee_at program labels.entry pc ≡ Some s → is_source (label_of labels s) ≡ true → AddsSource b after labels.entry pc s height → IsWalked program labels next (height + 1) after
+  walked_source after s is_one callee source adds =
+      let m = labels.entry in
+      let index = call_index operation is_one in
+      let k = index.0 in
+      let found_call : operation_at program m pc ≡ Some (InvokeStatic k, next) = found ∙ ap (λ o. Some (o, next)) index.1 in
+      let other : operation ≡ Return → ⊥ = λ is. true≢false (sym is_one ∙ ap is_call is) in
+      let call_is = source_call program labels m pc s w.natives callee source in
+      let call : node_at program m pc ≡ Call pc = ap (node_of pc) found_call in
+      let out : out_of (node_at program m pc) ≡ RetVal pc = ap out_of call in
+      let flow_here : IsFlowNode program m (Call pc) = subst (λ x. IsFlowNode program m x) call w.flow in
+      let into : FlowEdge program m (Call pc) (RetVal pc) = calls pc next k found_call call_is.native in
+      let result_flow : IsFlowNode program m (RetVal pc) = flow_on program m Entry (Call pc) (RetVal pc) flow_here into in
+      let leads : FlowEdge program m (RetVal pc) (node_at program m next) = arrives pc next k (node_at program m next) found_call call_is.native refl in
+      let on = goes_on_from program m w.code w.typed pc next operation w.shape w.arrives found other in
+      let rest = plain-on program labels m w.code next operation w.plain found other in
+      let by_call = height_by_call program (callee_at program m pc) k 0 1 w.shape on.shape call_is.effect (subst (λ o. shape_after program (callee_at program m pc) o w.shape ≡ Some on.shape) index.1 on.made) in
+      let one_more = b.nodes ++ name_of m (Call pc) (Some s) ∷ [] in
+      let l1 = length_push b.nodes (name_of m (Call pc) (Some s)) in
+      let long : length one_more ≡ length b.nodes + 1 = omega arith in
+      let grown = b.nodes ++ name_of m (Call pc) (Some s) ∷ [] ++ name_of m (RetVal pc) (Some s) ∷ [] in
+      let new = source_built program labels w.code w.typed pc next k s height found_call callee call_is.native has_height b.nodes b.edges b.results b.definitions w.built call flow_here call_is.counts source in
+      let stay_grown : NodesStay b.nodes grown = λ x n e. stay-push one_more (name_of m (RetVal pc) (Some s)) x n (stay-push b.nodes (name_of m (Call pc) (Some s)) x n e) in
+      let stay : NodesStay b.nodes after.nodes = subst (λ x. NodesStay b.nodes x) (sym adds.nodes) stay_grown in
+      let at_grown : node_in grown (length b.nodes + 1) ≡ Some (node (root labels) (RetVal pc)) = subst (λ x. node_in grown x ≡ Some (node (root labels) (RetVal pc))) long (node-push one_more (name_of m (RetVal pc) (Some s))) in
+      let at : node_in after.nodes (length b.nodes + 1) ≡ Some (node (root labels) (RetVal pc)) = subst (λ x. node_in x (length b.nodes + 1) ≡ Some (node (root labels) (RetVal pc))) (sym adds.nodes) at_grown in
+      record {
+        code = w.code; found = w.found; typed = w.typed; natives = w.natives; short = w.short; low = w.low; plain = rest.0;
+        small = (let i = on.inside in let s = w.short in omega arith);
+        shape = on.shape; arrives = on.arrives;
+        height_is = by_call.1 ∙ ap (λ x. x - 0 + 1) w.height_is ∙ (let e : height - 0 + 1 ≡ height + 1 = omega arith in e);
+        behind = behind_next program m w.code w.typed pc next operation found w.behind other;
+        flow = flow_on program m Entry (RetVal pc) (node_at program m next) result_flow leads;
+        built = built_next other after.nodes after.edges after.results (same_built program labels (pc + 1) grown after.nodes _ after.edges (b.results ++ (record { source = s; node = length b.nodes + 1 }) ∷ []) after.results adds.nodes adds.edges adds.results new);
+        defined = defined_next program labels w.code w.typed pc next operation found w.behind b.nodes after.nodes b.definitions after.definitions (Stack height ∷ []) (length b.nodes + 1) w.defined stay adds.definitions
+          (at ∙ ap (λ x. Some (node (root labels) x)) (sym out))
+          (λ v wr.
+            let is = (result_place program m pc height 0 1 v (subst (λ x. Writes program m x v) out wr) has_height call_is.counts call_is.gives).1 in
+            let zero_off : height - 0 ≡ height = omega arith in
+            subst (λ x. Contains (Stack height ∷ []) x) (ap (λ x. Stack x) (sym zero_off) ∙ sym is) (contains_first (Stack height) []))
+          (λ v among.
+            let zero_off : height - 0 ≡ height = omega arith in
+            subst (λ x. Writes program m x v) (sym out) (subst (λ x. Writes program m (RetVal pc) x) (ap (λ x. Stack x) zero_off ∙ contains_one (Stack height) v among) (by_result pc height 0 has_height call_is.counts call_is.gives)))
+          (subst (λ x. IsFlowNode program m x) (sym out) result_flow)
+          (subst (λ x. FlowEdge program m x (node_at program m next)) (sym out) leads)
+          (λ v d r no_write. more (RetVal pc) (node_at program m next) (more (Call pc) (RetVal pc) (subst (λ x. Reaches program m v d x) call r) (no_write_at_call program m pc v) into) (subst (λ x. Writes program m x v → ⊥) out no_write) leads);
+        locals = adds.definitions.sizes.0 ∙ w.locals;
+        stack = adds.definitions.sizes.1 ∙ w.stack
+      }
+
+  -- the call of a sink
+  pub walked_sink : (after : Builder) (s : ℕ) → is_call operation ≡ true → callee_at program labels.entry pc ≡ Some s → is_sink (label_of labels s) ≡ true → AddsSink b after labels.entry pc s height → IsWalked program labels next (height - 1) after
+  walked_sink after s is_one callee sink adds =
+      let m = labels.entry in
+      let index = call_index operation is_one in
+      let k = index.0 in
+      let found_call : operation_at program m pc ≡ Some (InvokeStatic k, next) = found ∙ ap (λ o. Some (o, next)) index.1 in
+      let other : operation ≡ Return → ⊥ = λ is. true≢false (sym is_one ∙ ap is_call is) in
+      let call_is = sink_call program labels m pc s w.natives callee sink in
+      let call : node_at program m pc ≡ Call pc = ap (node_of pc) found_call in
+      let out : out_of (node_at program m pc) ≡ RetVal pc = ap out_of call in
+      let flow_here : IsFlowNode program m (Call pc) = subst (λ x. IsFlowNode program m x) call w.flow in
+      let into : FlowEdge program m (Call pc) (RetVal pc) = calls pc next k found_call call_is.native in
+      let result_flow : IsFlowNode program m (RetVal pc) = flow_on program m Entry (Call pc) (RetVal pc) flow_here into in
+      let leads : FlowEdge program m (RetVal pc) (node_at program m next) = arrives pc next k (node_at program m next) found_call call_is.native refl in
+      let on = goes_on_from program m w.code w.typed pc next operation w.shape w.arrives found other in
+      let rest = plain-on program labels m w.code next operation w.plain found other in
+      let by_call = height_by_call program (callee_at program m pc) k 1 0 w.shape on.shape call_is.effect (subst (λ o. shape_after program (callee_at program m pc) o w.shape ≡ Some on.shape) index.1 on.made) in
+      let one_more = b.nodes ++ name_of m (Call pc) (Some s) ∷ [] in
+      let two_more = one_more ++ name_of m (Arg pc 0) (Some s) ∷ [] in
+      let l1 = length_push b.nodes (name_of m (Call pc) (Some s)) in
+      let l2 = length_push one_more (name_of m (Arg pc 0) (Some s)) in
+      let long : length two_more ≡ length b.nodes + 2 = omega arith in
+      let grown = b.nodes ++ name_of m (Call pc) (Some s) ∷ [] ++ name_of m (Arg pc 0) (Some s) ∷ [] ++ name_of m (RetVal pc) (Some s) ∷ [] in
+      let new = sink_built program labels w.code w.typed pc next k s height found_call callee call_is.native has_height b.nodes b.edges b.results b.definitions w.built call flow_here call_is.counts sink w.defined in
+      let stay_grown : NodesStay b.nodes grown = λ x n e. stay-push two_more (name_of m (RetVal pc) (Some s)) x n (stay-push one_more (name_of m (Arg pc 0) (Some s)) x n (stay-push b.nodes (name_of m (Call pc) (Some s)) x n e)) in
+      let stay : NodesStay b.nodes after.nodes = subst (λ x. NodesStay b.nodes x) (sym adds.nodes) stay_grown in
+      let at_grown : node_in grown (length b.nodes + 2) ≡ Some (node (root labels) (RetVal pc)) = subst (λ x. node_in grown x ≡ Some (node (root labels) (RetVal pc))) long (node-push two_more (name_of m (RetVal pc) (Some s))) in
+      let at : node_in after.nodes (length b.nodes + 2) ≡ Some (node (root labels) (RetVal pc)) = subst (λ x. node_in x (length b.nodes + 2) ≡ Some (node (root labels) (RetVal pc))) (sym adds.nodes) at_grown in
+      record {
+        code = w.code; found = w.found; typed = w.typed; natives = w.natives; short = w.short; low = w.low; plain = rest.0;
+        small = (let i = on.inside in let s = w.short in omega arith);
+        shape = on.shape; arrives = on.arrives;
+        height_is = by_call.1 ∙ ap (λ x. x - 1 + 0) w.height_is ∙ (let e : height - 1 + 0 ≡ height - 1 = omega arith in e);
+        behind = behind_next program m w.code w.typed pc next operation found w.behind other;
+        flow = flow_on program m Entry (RetVal pc) (node_at program m next) result_flow leads;
+        built = built_next other after.nodes after.edges after.results (same_built program labels (pc + 1) grown after.nodes _ after.edges b.results after.results adds.nodes adds.edges adds.results new);
+        defined = defined_next program labels w.code w.typed pc next operation found w.behind b.nodes after.nodes b.definitions after.definitions [] (length b.nodes + 2) w.defined stay
+          (record { here = λ v is. absurd (contains_none v is); others = λ v none. ap (λ d. definition_of d v) adds.definitions; sizes = (ap (λ d. length d.locals.items) adds.definitions, ap (λ d. length d.stack.items) adds.definitions) })
+          (at ∙ ap (λ x. Some (node (root labels) x)) (sym out))
+          (λ v wr. (let is = (result_place program m pc height 1 0 v (subst (λ x. Writes program m x v) out wr) has_height call_is.counts call_is.gives).0 in absurd (omega arith)))
+          (λ v among. absurd (contains_none v among))
+          (subst (λ x. IsFlowNode program m x) (sym out) result_flow)
+          (subst (λ x. FlowEdge program m x (node_at program m next)) (sym out) leads)
+          (λ v d r no_write. more (RetVal pc) (node_at program m next) (more (Call pc) (RetVal pc) (subst (λ x. Reaches program m v d x) call r) (no_write_at_call program m pc v) into) (subst (λ x. Writes program m x v → ⊥) out no_write) leads);
+        locals = ap (λ d. length d.locals.items) adds.definitions ∙ w.locals;
+        stack = ap (λ d. length d.stack.items) adds.definitions ∙ w.stack
+      }
+
+  -- the place of a source's result
+  pub walked_result : (s : ℕ) → is_call operation ≡ true → callee_at program labels.entry pc ≡ Some s → is_source (label_of labels s) ≡ true → HasPlace b.definitions (Stack height) × (height + 1 < 2 ^ 16)
+  walked_result s is_one callee source =
+      let m = labels.entry in
+      let index = call_index operation is_one in
+      let other : operation ≡ Return → ⊥ = λ is. true≢false (sym is_one ∙ ap is_call is) in
+      let call_is = source_call program labels m pc s w.natives callee source in
+      let on = goes_on_from program m w.code w.typed pc next operation w.shape w.arrives found other in
+      let by_call = height_by_call program (callee_at program m pc) index.0 0 1 w.shape on.shape call_is.effect (subst (λ o. shape_after program (callee_at program m pc) o w.shape ≡ Some on.shape) index.1 on.made) in
+      let e = by_call.1 in
+      let level = w.height_is in
+      let high = on.high in
+      let low = w.low in
+      let size = w.stack in
+      (omega arith, omega arith)
+
+  -- plain code calls a source or a sink
+  pub walked_callee : is_call operation ≡ true → (s : ℕ) × (callee_at program labels.entry pc ≡ Some s) × ((is_source (label_of labels s) ≡ true) ⊎ (is_sink (label_of labels s) ≡ true))
+  walked_callee is_one =
+      let index = call_index operation is_one in
+      let other : operation ≡ Return → ⊥ = λ is. true≢false (sym is_one ∙ ap is_call is) in
+      let rest = plain-on program labels labels.entry w.code next operation w.plain found other in
+      plain_callee labels (callee_at program labels.entry pc) (subst (λ o. goes_on labels (callee_at program labels.entry pc) o ≡ true) index.1 rest.1)
+
+-- an operation stands where the walk has come
+pub walked_some : (program : Program) (labels : Labels) (pc height : ℕ) (b : Builder) → IsWalked program labels pc height b → operation_at program labels.entry pc ≡ None → ⊥
+walked_some program labels pc height b w none = plain-some program labels labels.entry w.code w.plain none

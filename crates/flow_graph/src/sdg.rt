@@ -2,16 +2,20 @@
 ghost use Rattle.std.specs.Prelude.{◌≡◌, ◌≢◌, ℕ, ◌+◌, ◌-◌, ◌*◌, ◌<◌, ◌≤◌, ◌^◌, List as Items, [], ◌∷◌, ◌++◌, length, Contains, IfOk, OnOk, true, replicate, slice_index_or};
 ghost use Rattle.flow_graph.specs.Flow.{reads_of, writes_of};
 ghost use Rattle.flow_graph.specs.declared.flow.Place.{Place as APlace};
+ghost use Rattle.jo_prog.specs.declared.program.Code.{Code};
+ghost use Rattle.jo_prog.specs.Program.{code_at};
 ghost use Rattle.jo_prog.specs.Labels.{label_of};
 ghost use Rattle.flow_graph.specs.Graph.{is_source, is_sink};
-ghost use Rattle.flow_graph.specs.GraphData.{edge};
-ghost use Rattle.flow_graph.specs.Building.{definition_of, HasPlace, SameSizes, AreWritten, name_of, use_edges, uses_edges, out_edges, control_edges, heap_edges, AddsInstruction, AddsSource, AddsSink, height_after, is_call, is_return};
+ghost use Rattle.jo_prog.specs.PlainCode.{IsPlainProgram};
+ghost use Rattle.flow_graph.specs.GraphData.{edge, IsDependenceGraph};
+ghost use Rattle.flow_graph.specs.Building.{definition_of, HasPlace, SameSizes, AreWritten, name_of, use_edges, uses_edges, out_edges, control_edges, heap_edges, AddsInstruction, AddsSource, AddsSink, height_after, is_call, is_return, IsStart, HasShortCode};
 
-use crate::dep_nodes::{Edge, EdgeKind, NodeName, SiteList};
+use crate::dep_nodes::{Edge, EdgeKind, Graph, NodeName, SiteList};
 use crate::flow::{NodeKind, Place};
 use class_read::jo_ids::{List, Memory, MethodId, NodeId, SiteId};
 use class_read::jo_insn::Operation;
 use jo_prog::labels::{Label, Labels, label_of};
+use jo_prog::program::{Program, callee_at, code_at, operation_at};
 use std::alloc::Global;
 
 /// The node that wrote each place last, for each local and for each height of the stack.
@@ -191,6 +195,41 @@ struct Builder {
 }
 
 impl Builder {
+    /// A builder with the nodes that every graph has.
+    fn new(alloc: Global, method: MethodId, max_locals: usize, max_stack: usize) -> Result<Builder, Memory>
+        ensures { IfOk result (λ b. IsStart b method max_locals max_stack) }
+    {
+        let mut nodes = List::new(alloc);
+        add_node(&mut nodes, method, NodeKind::Entry, None)?;
+        add_node(&mut nodes, method, NodeKind::Exit, None)?;
+        add_node(&mut nodes, method, NodeKind::Kind, None)?;
+        add_node(&mut nodes, method, NodeKind::Thrown, None)?;
+        let definitions = Definitions {
+            locals: vec![in alloc; None; max_locals]?,
+            stack: vec![in alloc; None; max_stack]?,
+        };
+        Ok(Builder {
+            nodes,
+            edges: List::new(alloc),
+            definitions,
+            results: List::new(alloc),
+        })
+    }
+
+    fn into_graph(self) -> Graph
+        ensures { (result.nodes ≡ self.nodes) × (result.edges ≡ self.edges) }
+    {
+        let Builder {
+            nodes,
+            edges,
+            definitions,
+            results,
+        } = self;
+        drop(definitions);
+        drop(results);
+        Graph { nodes, edges }
+    }
+
     /// Adds an instruction that is no call.
     fn add_instruction(&mut self, method: MethodId, pc: u32, operation: Operation, height: u16) -> Result<(), Memory>
         requires few { length self.old.nodes < 2 ^ 32 }
@@ -301,5 +340,46 @@ impl Builder {
             }
             _ => Ok(height),
         }
+    }
+}
+
+/// The dependence graph of a program of plain code: one walk along the entry's line of instructions, which keeps for each
+/// place the node that wrote it last.
+pub fn build(alloc: Global, program: &Program, labels: &Labels) -> Result<Graph, Memory>
+    requires plain { IsPlainProgram program.now labels.now }
+    requires short { HasShortCode program.now labels.now.entry }
+    ensures { IfOk result (λ g. IsDependenceGraph program.now labels.now g) }
+{
+    let method = labels.entry;
+    let (max_locals, max_stack) = sizes_of(program, method);
+    let mut builder = Builder::new(alloc, method, max_locals, max_stack)?;
+    let mut pc = 0;
+    let mut height = 0;
+    loop {
+        let Some((operation, next)) = operation_at(program, method, pc) else {
+            return Ok(builder.into_graph());
+        };
+        if is_call(operation) {
+            let callee = callee_at(program, method, pc);
+            height = builder.add_call(labels, method, pc, callee, height)?;
+        } else {
+            builder.add_instruction(method, pc, operation, height)?;
+            if is_return(operation) {
+                return Ok(builder.into_graph());
+            }
+            height = height_after(operation, height);
+        }
+        pc = next;
+    }
+}
+
+/// The numbers of locals and of stack places of a method's code.
+fn sizes_of(program: &Program, method: MethodId) -> (usize, usize)
+    ensures { (code : Code) → code_at program.now method ≡ Some code
+        → (result.0 ≡ code.max_locals) × (result.1 ≡ code.max_stack) }
+{
+    match code_at(program, method) {
+        Some(code) => (code.max_locals as usize, code.max_stack as usize),
+        None => (0, 0),
     }
 }
