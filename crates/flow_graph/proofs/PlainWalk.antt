@@ -1,7 +1,7 @@
 -- The walk over plain code, from its start to its return.
 use Rattle.std.proofs.Common.{◌≡◌, ◌≢◌, ◌⊎◌, inl, inr, ℕ, zero, suc, ◌+◌, ◌*◌, ◌-◌, ◌^◌, ◌<◌, ◌≤◌, Bool, true, false, List, [], ◌∷◌, ◌++◌, length, replicate, get_or, Option, Some, None, Contains, refl, sym, ap, subst, ◌∙◌, arith}
 use Rattle.std.specs.List.{AllByRecursion}
-use Rattle.std.proofs.lemmas.Bool.{cases_eq, cases_lt, false≢true, true≢false}
+use Rattle.std.proofs.lemmas.Bool.{cases_eq, cases_lt, cases_Bool, false≢true, true≢false}
 use Rattle.std.proofs.lemmas.Option.{none-some, same_Some}
 use Rattle.std.proofs.lemmas.List.{length-replicate, get_or-replicate, get_or_past, length_push}
 use Rattle.class_read.specs.declared.jo_insn.Operation.{Operation}
@@ -60,7 +60,7 @@ call_index (InvokeStatic k) is = (k, refl)
 call_index Return is = absurd (false≢true is)
 call_index Other is = absurd (false≢true is)
 
-return_is : (operation : Operation) → is_return operation ≡ true → operation ≡ Return
+pub return_is : (operation : Operation) → is_return operation ≡ true → operation ≡ Return
 return_is (Constant z) is = absurd (false≢true is)
 return_is (Load k) is = absurd (false≢true is)
 return_is (Store k) is = absurd (false≢true is)
@@ -69,6 +69,9 @@ return_is Subtract is = absurd (false≢true is)
 return_is (InvokeStatic k) is = absurd (false≢true is)
 return_is Return is = refl
 return_is Other is = absurd (false≢true is)
+
+pub call_no_return : (operation : Operation) → is_call operation ≡ true → operation ≡ Return → ⊥
+call_no_return operation is same = true≢false (sym is ∙ ap is_call same)
 
 pub no_return_from : (operation : Operation) → is_return operation ≡ false → operation ≡ Return → ⊥
 no_return_from operation is same = true≢false (ap is_return (sym same) ∙ is)
@@ -293,6 +296,17 @@ module _ (program : Program) (labels : Labels) (pc next height : ℕ) (operation
       let high = on.high in
       places_by program (callee_at program labels.entry pc) operation w.shape on.shape b.definitions on.made other (w.locals ∙ sym l) (let s = w.stack in omega arith) v
         (subst (λ x. Contains (writes_of operation x) v) (sym w.height_is) is)
+
+  pub walked_next_small : (operation ≡ Return → ⊥) → next < 2 ^ 16
+  walked_next_small other =
+      let inside = (goes_on_from program labels.entry w.code w.typed pc next operation w.shape w.arrives found other).inside in
+      let short = w.short in
+      omega arith
+
+  pub walked_all_places : (v : Place) → Contains (writes_of operation height) v → HasPlace b.definitions v
+  walked_all_places v is = elim (cases_Bool (is_return operation)) [
+      inl returns ↦ absurd (contains_none v (subst (λ o. Contains (writes_of o height) v) (return_is operation returns) is))
+    | inr other ↦ walked_places (no_return_from operation other) v is ]
 
   pub walked_fits : is_call operation ≡ false → (operation ≡ Return → ⊥) → height_after operation height < 2 ^ 16
   walked_fits plain other =

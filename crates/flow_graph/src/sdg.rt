@@ -217,7 +217,7 @@ impl Builder {
     }
 
     fn into_graph(self) -> Graph
-        ensures { (result.nodes ≡ self.nodes) × (result.edges ≡ self.edges) }
+        ensures { result ≡ record { nodes = self.nodes; edges = self.edges } }
     {
         let Builder {
             nodes,
