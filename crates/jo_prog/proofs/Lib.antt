@@ -2,4 +2,6 @@ pub mod Decoding
 pub mod Flows
 pub mod IntShapeLemmas
 pub mod PlainPaths
+pub mod RunLemmas
+pub mod RunningLemmas
 pub mod TypingPaths

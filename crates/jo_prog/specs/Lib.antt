@@ -8,3 +8,4 @@ pub mod Runs
 pub mod PlainCode
 pub mod IntShapes
 pub mod Worked
+pub mod Running

@@ -6,4 +6,7 @@ pub mod labels;
 pub mod laws;
 pub mod linker;
 pub mod program;
+pub mod runner;
 pub mod runs;
+#[cfg(test)]
+mod tests;

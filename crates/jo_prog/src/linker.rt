@@ -12,7 +12,7 @@ use class_read::jo_ids::{ClassId, List, Memory, MethodId};
 use class_read::jo_text::Name;
 use std::alloc::Global;
 
-fn add<T: Drop>(list: &mut List<T>, item: T) -> Result<(), Memory>
+pub(crate) fn add<T: Drop>(list: &mut List<T>, item: T) -> Result<(), Memory>
     ensures { OnOk result (list.new ≡ list.old ++ item ∷ []) }
 {
     match list.push(item) {

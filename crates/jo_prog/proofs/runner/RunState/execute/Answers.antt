@@ -1,0 +1,7 @@
+use Rattle.std.proofs.Common.{ap, ◌∙◌}
+use Rattle.class_read.specs.declared.jo_insn.Operation.{Operation}
+use Rattle.jo_prog.specs.Running.{executed}
+use Rattle.jo_prog.proofs.runner.RunState.execute.Goals as goal
+
+pub returns-in-Return : goal.returns-in-Return
+returns-in-Return c = ap (λ (o : Operation). executed c.args.self.now c.args.next o) c.in-Return.is ∙ c.end.ensures c.args.next
