@@ -5,3 +5,6 @@ pub mod PlainReaching
 pub mod BuildingLemmas
 pub mod NodeLists
 pub mod PlainSteps
+pub mod PlainCalls
+pub mod PlainTyping
+pub mod PlainWalk

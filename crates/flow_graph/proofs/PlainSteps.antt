@@ -202,10 +202,10 @@ module _ (program : Program) (labels : Labels) (code : Code) (typed : IsTypedCod
 
 -- ---- edges to uses
 
-contains_cons : {X : Type 0} → (x : X) (xs : List X) (y : X) → Contains (x ∷ xs) y → (x ≡ y) ⊎ Contains xs y
+pub contains_cons : {X : Type 0} → (x : X) (xs : List X) (y : X) → Contains (x ∷ xs) y → (x ≡ y) ⊎ Contains xs y
 contains_cons x xs y h = elim (Contains-append_cases (x ∷ []) xs y h) [ inl is ↦ inl (contains_one x y is) | inr is ↦ inr is ]
 
-use_right : (program : Program) (labels : Labels) (nodes : List NodeName) (j : ℕ) (o : Option ℕ) → ((d : ℕ) → o ≡ Some d → IsEdgeOf program labels nodes (edge d Data j)) → (e : Edge) → Contains (use_edges o j) e → IsEdgeOf program labels nodes e
+pub use_right : (program : Program) (labels : Labels) (nodes : List NodeName) (j : ℕ) (o : Option ℕ) → ((d : ℕ) → o ≡ Some d → IsEdgeOf program labels nodes (edge d Data j)) → (e : Edge) → Contains (use_edges o j) e → IsEdgeOf program labels nodes e
 use_right program labels nodes j None right e is = absurd (contains_none e is)
 use_right program labels nodes j (Some d) right e is = subst (λ x. IsEdgeOf program labels nodes x) (contains_one (edge d Data j) e is) (right d refl)
 
@@ -217,7 +217,7 @@ uses_right program labels nodes definitions j (v ∷ vs) right e is =
         inl first ↦ use_right program labels nodes j (definition_of definitions v) (λ d def. right v d (contains_first v vs) def) e first
       | inr rest ↦ uses_right program labels nodes definitions j vs (λ w d among def. right w d (Contains-append_right (v ∷ []) vs w among) def) e rest ]
 
-use_there : (j d : ℕ) (o : Option ℕ) → o ≡ Some d → Contains (use_edges o j) (edge d Data j)
+pub use_there : (j d : ℕ) (o : Option ℕ) → o ≡ Some d → Contains (use_edges o j) (edge d Data j)
 use_there j d o e = subst (λ x. Contains (use_edges x j) (edge d Data j)) (sym e) (contains_first (edge d Data j) [])
 
 pub uses_there : (definitions : Definitions) (j d : ℕ) (v : Place) (vs : List Place) → Contains vs v → definition_of definitions v ≡ Some d → Contains (uses_edges definitions vs j) (edge d Data j)
@@ -281,7 +281,7 @@ module _ (program : Program) (labels : Labels) (code : Code) (typed : IsTypedCod
 
 -- ---- edges by the words
 
-control_right : (program : Program) (labels : Labels) (nodes : List NodeName) (j : ℕ) (k : NodeKind) → IsFlowNode program labels.entry k → k ≢ Entry → k ≢ Exit → node_in nodes 0 ≡ Some (node (root labels) Entry) → node_in nodes j ≡ Some (node (root labels) k)
+pub control_right : (program : Program) (labels : Labels) (nodes : List NodeName) (j : ℕ) (k : NodeKind) → IsFlowNode program labels.entry k → k ≢ Entry → k ≢ Exit → node_in nodes 0 ≡ Some (node (root labels) Entry) → node_in nodes j ≡ Some (node (root labels) k)
     → (e : Edge) → Contains (control_edges j) e → IsEdgeOf program labels nodes e
 control_right program labels nodes j k flow no_entry no_exit first at e is =
     subst (λ x. IsEdgeOf program labels nodes x) (contains_one (edge 0 Control j) e is)
@@ -290,10 +290,10 @@ control_right program labels nodes j k flow no_entry no_exit first at e is =
 pub cursor_flow : (program : Program) (labels : Labels) (source : ℕ) (x : Node) → UsesCursor program labels source x → IsFlowNode program labels.entry x.kind
 cursor_flow program labels source x (at_result i p s at_entry flow callee is) = flow
 
-cursor_callee : (program : Program) (labels : Labels) (source : ℕ) (x : Node) → UsesCursor program labels source x → (callee_at program labels.entry (pc_of x.kind) ≡ Some source) × (is_source (label_of labels source) ≡ true)
+pub cursor_callee : (program : Program) (labels : Labels) (source : ℕ) (x : Node) → UsesCursor program labels source x → (callee_at program labels.entry (pc_of x.kind) ≡ Some source) × (is_source (label_of labels source) ≡ true)
 cursor_callee program labels source x (at_result i p s at_entry flow callee is) = (callee, is)
 
-flow_kind : (program : Program) (labels : Labels) (code : Code) (typed : IsTypedCode program labels.entry code) (k : NodeKind) → IsFlowNode program labels.entry k → IsKindOf program labels.entry k
+pub flow_kind : (program : Program) (labels : Labels) (code : Code) (typed : IsTypedCode program labels.entry code) (k : NodeKind) → IsFlowNode program labels.entry k → IsKindOf program labels.entry k
 flow_kind program labels code typed k flow = (node_kind program labels code typed (node (root labels) k) (of_flow (root labels) k at_entry flow)).1
 
 -- ---- an instruction that is no call

@@ -1,7 +1,10 @@
 -- What the walk over plain code adds to a graph, an instruction at a time.
-use Rattle.std.specs.Prelude.{◌≡◌, ℕ, ◌+◌, ◌-◌, ◌<◌, ◌==◌, if◌then◌else◌, List, [], ◌∷◌, ◌++◌, length, Option, Some, None, Contains, slice_index_or, slice_get, option_map}
+use Rattle.std.specs.Prelude.{◌≡◌, ℕ, ◌+◌, ◌-◌, ◌^◌, ◌<◌, Bool, true, false, ◌==◌, if◌then◌else◌, List, [], ◌∷◌, ◌++◌, length, replicate, Option, Some, None, Contains, slice_index_or, slice_get, option_map}
 use Rattle.class_read.specs.declared.jo_insn.Operation.{Operation}
-use Rattle.class_read.specs.declared.jo_insn.Operation.TheVariants.{Return}
+use Rattle.class_read.specs.declared.jo_insn.Operation.TheVariants.{Constant, Load, Store, Add, Subtract, InvokeStatic, Return, Other}
+use Rattle.jo_prog.specs.declared.program.Program.{Program}
+use Rattle.jo_prog.specs.declared.program.Code.{Code}
+use Rattle.jo_prog.specs.Program.{code_at}
 use Rattle.flow_graph.specs.declared.flow.Place.{Place}
 use Rattle.flow_graph.specs.declared.flow.Place.TheVariants.{Local, Stack, Pending}
 use Rattle.flow_graph.specs.declared.flow.NodeKind.{NodeKind}
@@ -10,6 +13,9 @@ use Rattle.flow_graph.specs.declared.dep_nodes.NodeName.{NodeName}
 use Rattle.flow_graph.specs.declared.dep_nodes.Edge.{Edge}
 use Rattle.flow_graph.specs.declared.sdg.Definitions.{Definitions}
 use Rattle.flow_graph.specs.declared.sdg.SourceResult.{SourceResult}
+use Rattle.flow_graph.specs.declared.sdg.Builder.{Builder}
+use Rattle.flow_graph.specs.Flow.{reads_of, writes_of}
+use Rattle.flow_graph.specs.declared.flow.NodeKind.TheVariants.{Entry, Exit, Instr, Call, RetVal, Arg, Kind, Thrown}
 use Rattle.flow_graph.specs.GraphData.{edge}
 
 -- the number of the node that wrote a place last
@@ -59,3 +65,65 @@ control_edges node = edge 0 Control node ∷ []
 abbrev pub heap_edges : List SourceResult → ℕ → ℕ → List Edge
 heap_edges [] source node = []
 heap_edges (r ∷ rs) source node = (if r.source == source then edge r.node Heap node ∷ edge node Heap r.node ∷ [] else []) ++ heap_edges rs source node
+
+-- an instruction that is no call adds its node and its edges, and writes its places
+pub record AddsInstruction (old new : Builder) (method pc : ℕ) (operation : Operation) (height : ℕ) : Type 0 where
+  pub nodes : new.nodes ≡ old.nodes ++ name_of method (Instr pc) None ∷ []
+  pub edges : new.edges ≡ old.edges ++ control_edges (length old.nodes) ++ uses_edges old.definitions (reads_of operation height) (length old.nodes) ++ out_edges operation (length old.nodes)
+  pub definitions : AreWritten old.definitions new.definitions (writes_of operation height) (length old.nodes)
+  pub results : new.results ≡ old.results
+
+-- the node of a source's result stands behind that of its call
+abbrev pub result_of : List NodeName → ℕ → SourceResult
+result_of nodes source = record { source = source; node = length nodes + 1 }
+
+-- the call of a source adds its nodes and its edges, and its result
+pub record AddsSource (old new : Builder) (method pc source height : ℕ) : Type 0 where
+  pub nodes : new.nodes ≡ old.nodes ++ name_of method (Call pc) (Some source) ∷ [] ++ name_of method (RetVal pc) (Some source) ∷ []
+  pub edges : new.edges ≡ old.edges ++ control_edges (length old.nodes) ++ control_edges (length old.nodes + 1) ++ heap_edges old.results source (length old.nodes + 1)
+      ++ edge (length old.nodes + 1) Heap (length old.nodes + 1) ∷ []
+  pub definitions : AreWritten old.definitions new.definitions (Stack height ∷ []) (length old.nodes + 1)
+  pub results : new.results ≡ old.results ++ result_of old.nodes source ∷ []
+
+-- the call of a sink adds its nodes and its edges
+pub record AddsSink (old new : Builder) (method pc sink height : ℕ) : Type 0 where
+  pub nodes : new.nodes ≡ old.nodes ++ name_of method (Call pc) (Some sink) ∷ [] ++ name_of method (Arg pc 0) (Some sink) ∷ [] ++ name_of method (RetVal pc) (Some sink) ∷ []
+  pub edges : new.edges ≡ old.edges ++ control_edges (length old.nodes) ++ use_edges (definition_of old.definitions (Stack (height - 1))) (length old.nodes + 1)
+      ++ edge (length old.nodes + 1) Data (length old.nodes) ∷ [] ++ control_edges (length old.nodes + 2)
+  pub definitions : new.definitions ≡ old.definitions
+  pub results : new.results ≡ old.results
+
+-- the height of the stack behind an operation that is no call
+abbrev pub height_after : Operation → ℕ → ℕ
+height_after (Constant z) height = height + 1
+height_after (Load k) height = height + 1
+height_after (Store k) height = height - 1
+height_after Add height = height - 1
+height_after Subtract height = height - 1
+height_after (InvokeStatic k) height = height
+height_after Return height = height
+height_after Other height = height
+
+abbrev pub is_call : Operation → Bool
+is_call (InvokeStatic k) = true
+is_call _ = false
+
+abbrev pub is_return : Operation → Bool
+is_return Return = true
+is_return _ = false
+
+-- the lengths of an entry's code, which a class file gives in two bytes each
+abbrev pub HasShortCode : Program → ℕ → Type 0
+HasShortCode program m = (code : Code) → code_at program m ≡ Some code → (length code.bytes < 2 ^ 16) × (code.max_stack < 2 ^ 16) × (code.max_locals < 2 ^ 16)
+
+-- the nodes that every graph has, in the order of their numbers
+abbrev pub start_nodes : ℕ → List NodeName
+start_nodes method = name_of method Entry None ∷ name_of method Exit None ∷ name_of method Kind None ∷ name_of method Thrown None ∷ []
+
+-- a builder as the walk begins
+pub record IsStart (new : Builder) (method max_locals max_stack : ℕ) : Type 0 where
+  pub nodes : new.nodes ≡ start_nodes method
+  pub edges : new.edges ≡ []
+  pub locals : new.definitions.locals.items ≡ replicate max_locals None
+  pub stack : new.definitions.stack.items ≡ replicate max_stack None
+  pub results : new.results ≡ []

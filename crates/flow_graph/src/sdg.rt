@@ -1,14 +1,21 @@
 //! Builds the dependence graph of a program of plain code, by one walk over its line of instructions.
-ghost use Rattle.std.specs.Prelude.{◌≡◌, ◌≢◌, ℕ, ◌+◌, ◌-◌, ◌*◌, ◌<◌, ◌≤◌, ◌^◌, List as Items, [], ◌∷◌, ◌++◌, length, Contains, IfOk, OnOk, replicate, slice_index_or};
+ghost use Rattle.std.specs.Prelude.{◌≡◌, ◌≢◌, ℕ, ◌+◌, ◌-◌, ◌*◌, ◌<◌, ◌≤◌, ◌^◌, List as Items, [], ◌∷◌, ◌++◌, length, Contains, IfOk, OnOk, true, replicate, slice_index_or};
 ghost use Rattle.flow_graph.specs.Flow.{reads_of, writes_of};
 ghost use Rattle.flow_graph.specs.declared.flow.Place.{Place as APlace};
-ghost use Rattle.flow_graph.specs.GraphData.{edge};
-ghost use Rattle.flow_graph.specs.Building.{definition_of, HasPlace, SameSizes, AreWritten, name_of, use_edges, uses_edges, out_edges, control_edges, heap_edges};
+ghost use Rattle.jo_prog.specs.declared.program.Code.{Code};
+ghost use Rattle.jo_prog.specs.Program.{code_at};
+ghost use Rattle.jo_prog.specs.Labels.{label_of};
+ghost use Rattle.flow_graph.specs.Graph.{is_source, is_sink};
+ghost use Rattle.jo_prog.specs.PlainCode.{IsPlainProgram};
+ghost use Rattle.flow_graph.specs.GraphData.{edge, IsDependenceGraph};
+ghost use Rattle.flow_graph.specs.Building.{definition_of, HasPlace, SameSizes, AreWritten, name_of, use_edges, uses_edges, out_edges, control_edges, heap_edges, AddsInstruction, AddsSource, AddsSink, height_after, is_call, is_return, IsStart, HasShortCode};
 
-use crate::dep_nodes::{Edge, EdgeKind, NodeName, SiteList};
+use crate::dep_nodes::{Edge, EdgeKind, Graph, NodeName, SiteList};
 use crate::flow::{NodeKind, Place};
 use class_read::jo_ids::{List, Memory, MethodId, NodeId, SiteId};
 use class_read::jo_insn::Operation;
+use jo_prog::labels::{Label, Labels, label_of};
+use jo_prog::program::{Program, callee_at, code_at, operation_at};
 use std::alloc::Global;
 
 /// The node that wrote each place last, for each local and for each height of the stack.
@@ -176,4 +183,203 @@ fn add_heap(edges: &mut List<Edge>, results: &[SourceResult], source: MethodId, 
         }
     }
     Ok(())
+}
+
+/// What the walk has made so far. The first four nodes are Entry, Exit, Kind and Thrown.
+#[derive(Drop)]
+struct Builder {
+    nodes: List<NodeName>,
+    edges: List<Edge>,
+    definitions: Definitions,
+    results: List<SourceResult>,
+}
+
+impl Builder {
+    /// A builder with the nodes that every graph has.
+    fn new(alloc: Global, method: MethodId, max_locals: usize, max_stack: usize) -> Result<Builder, Memory>
+        ensures { IfOk result (λ b. IsStart b method max_locals max_stack) }
+    {
+        let mut nodes = List::new(alloc);
+        add_node(&mut nodes, method, NodeKind::Entry, None)?;
+        add_node(&mut nodes, method, NodeKind::Exit, None)?;
+        add_node(&mut nodes, method, NodeKind::Kind, None)?;
+        add_node(&mut nodes, method, NodeKind::Thrown, None)?;
+        let definitions = Definitions {
+            locals: vec![in alloc; None; max_locals]?,
+            stack: vec![in alloc; None; max_stack]?,
+        };
+        Ok(Builder {
+            nodes,
+            edges: List::new(alloc),
+            definitions,
+            results: List::new(alloc),
+        })
+    }
+
+    fn into_graph(self) -> Graph
+        ensures { result ≡ record { nodes = self.nodes; edges = self.edges } }
+    {
+        let Builder {
+            nodes,
+            edges,
+            definitions,
+            results,
+        } = self;
+        drop(definitions);
+        drop(results);
+        Graph { nodes, edges }
+    }
+
+    /// Adds an instruction that is no call.
+    fn add_instruction(&mut self, method: MethodId, pc: u32, operation: Operation, height: u16) -> Result<(), Memory>
+        requires few { length self.old.nodes < 2 ^ 32 }
+        requires places { (v : APlace) → Contains (writes_of operation height) v → HasPlace self.old.definitions v }
+        ensures { OnOk result (AddsInstruction self.old self.new method pc operation height) }
+    {
+        let node = add_node(&mut self.nodes, method, NodeKind::Instr(pc), None)?;
+        add_control(&mut self.edges, node)?;
+        add_uses(&mut self.edges, &self.definitions, operation, height, node)?;
+        add_out(&mut self.edges, operation, node)?;
+        self.definitions.define_written(operation, height, node);
+        Ok(())
+    }
+
+    /// Adds the call of a source.
+    fn add_source(&mut self, method: MethodId, pc: u32, source: MethodId, height: u16) -> Result<(), Memory>
+        requires few { length self.old.nodes + 1 < 2 ^ 32 }
+        requires place { HasPlace self.old.definitions (Place.Stack height) }
+        ensures { OnOk result (AddsSource self.old self.new method pc source height) }
+    {
+        let call = add_node(&mut self.nodes, method, NodeKind::Call(pc), Some(source))?;
+        let node = add_node(&mut self.nodes, method, NodeKind::RetVal(pc), Some(source))?;
+        add_control(&mut self.edges, call)?;
+        add_control(&mut self.edges, node)?;
+        add_heap(&mut self.edges, self.results.as_slice(), source, node)?;
+        add_edge(&mut self.edges, node, EdgeKind::Heap, node)?;
+        self.definitions.define(Place::Stack(height), node);
+        push_result(&mut self.results, SourceResult { source, node })
+    }
+
+    /// Adds the call of a sink.
+    fn add_sink(&mut self, method: MethodId, pc: u32, sink: MethodId, height: u16) -> Result<(), Memory>
+        requires few { length self.old.nodes + 2 < 2 ^ 32 }
+        ensures { OnOk result (AddsSink self.old self.new method pc sink height) }
+    {
+        let call = add_node(&mut self.nodes, method, NodeKind::Call(pc), Some(sink))?;
+        let shown = add_node(&mut self.nodes, method, NodeKind::Arg(pc, 0), Some(sink))?;
+        let node = add_node(&mut self.nodes, method, NodeKind::RetVal(pc), Some(sink))?;
+        let definition = self.definitions.of(Place::Stack(height.saturating_sub(1)));
+        add_control(&mut self.edges, call)?;
+        add_use(&mut self.edges, definition, shown)?;
+        add_edge(&mut self.edges, shown, EdgeKind::Data, call)?;
+        add_control(&mut self.edges, node)
+    }
+}
+
+fn push_result(results: &mut List<SourceResult>, of_source: SourceResult) -> Result<(), Memory>
+    ensures { OnOk result (results.new ≡ results.old ++ of_source ∷ []) }
+{
+    match results.push(of_source) {
+        Ok(()) => Ok(()),
+        Err((_, memory)) => Err(memory),
+    }
+}
+
+/// The height of the stack behind an operation that is no call.
+fn height_after(operation: Operation, height: u16) -> u16
+    requires { height_after operation height < 2 ^ 16 }
+    ensures { result ≡ height_after operation height }
+{
+    match operation {
+        Operation::Constant(_) | Operation::Load(_) => height + 1,
+        Operation::Store(_) | Operation::Add | Operation::Subtract => height.saturating_sub(1),
+        Operation::InvokeStatic(_) | Operation::Return | Operation::Other => height,
+    }
+}
+
+fn is_call(operation: Operation) -> bool
+    ensures { result ≡ is_call operation }
+{
+    match operation {
+        Operation::InvokeStatic(_) => true,
+        _ => false,
+    }
+}
+
+fn is_return(operation: Operation) -> bool
+    ensures { result ≡ is_return operation }
+{
+    match operation {
+        Operation::Return => true,
+        _ => false,
+    }
+}
+
+impl Builder {
+    /// Adds a call, and gives the height of the stack behind it. Plain code calls sources and sinks alone.
+    fn add_call(&mut self, labels: &Labels, method: MethodId, pc: u32, callee: Option<MethodId>, height: u16) -> Result<u16, Memory>
+        requires few { length self.old.nodes + 2 < 2 ^ 32 }
+        requires place { (s : ℕ) → callee ≡ Some s → is_source (label_of labels.now s) ≡ true
+            → HasPlace self.old.definitions (Place.Stack height) × (height + 1 < 2 ^ 16) }
+        ensures source { IfOk result (λ after. (s : ℕ) → callee ≡ Some s → is_source (label_of labels.now s) ≡ true
+            → AddsSource self.old self.new method pc s height × (after ≡ height + 1)) }
+        ensures sink { IfOk result (λ after. (s : ℕ) → callee ≡ Some s → is_sink (label_of labels.now s) ≡ true
+            → AddsSink self.old self.new method pc s height × (after ≡ height - 1)) }
+    {
+        let Some(named) = callee else {
+            return Ok(height);
+        };
+        match label_of(labels, named) {
+            Some(Label::Source(_)) => {
+                self.add_source(method, pc, named, height)?;
+                Ok(height + 1)
+            }
+            Some(Label::Sink(_)) => {
+                self.add_sink(method, pc, named, height)?;
+                Ok(height.saturating_sub(1))
+            }
+            _ => Ok(height),
+        }
+    }
+}
+
+/// The dependence graph of a program of plain code: one walk along the entry's line of instructions, which keeps for each
+/// place the node that wrote it last.
+pub fn build(alloc: Global, program: &Program, labels: &Labels) -> Result<Graph, Memory>
+    requires plain { IsPlainProgram program.now labels.now }
+    requires short { HasShortCode program.now labels.now.entry }
+    ensures { IfOk result (λ g. IsDependenceGraph program.now labels.now g) }
+{
+    let method = labels.entry;
+    let (max_locals, max_stack) = sizes_of(program, method);
+    let mut builder = Builder::new(alloc, method, max_locals, max_stack)?;
+    let mut pc = 0;
+    let mut height = 0;
+    loop {
+        let Some((operation, next)) = operation_at(program, method, pc) else {
+            return Ok(builder.into_graph());
+        };
+        if is_call(operation) {
+            let callee = callee_at(program, method, pc);
+            height = builder.add_call(labels, method, pc, callee, height)?;
+        } else {
+            builder.add_instruction(method, pc, operation, height)?;
+            if is_return(operation) {
+                return Ok(builder.into_graph());
+            }
+            height = height_after(operation, height);
+        }
+        pc = next;
+    }
+}
+
+/// The numbers of locals and of stack places of a method's code.
+fn sizes_of(program: &Program, method: MethodId) -> (usize, usize)
+    ensures { (code : Code) → code_at program.now method ≡ Some code
+        → (result.0 ≡ code.max_locals) × (result.1 ≡ code.max_stack) }
+{
+    match code_at(program, method) {
+        Some(code) => (code.max_locals as usize, code.max_stack as usize),
+        None => (0, 0),
+    }
 }
