@@ -1,4 +1,5 @@
 pub mod Answering
+pub mod Forms
 pub mod PolicyLabels
 pub mod PolicyParts
 pub mod PolicyReads

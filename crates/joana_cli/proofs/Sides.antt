@@ -47,8 +47,8 @@ number_of test first (x ∷ names) (suc place) name found passes =
     let e : suc first + place ≡ first + suc place = omega arith in
     let d : Contains (places_from test (suc first) names) (first + suc place) = subst (λ n. Contains (places_from test (suc first) names) n) e c in
     elim (test x) as (λ b. Contains (if b then first ∷ places_from test (suc first) names else places_from test (suc first) names) (first + suc place)) [
-      true ↦ there first (first + suc place) _ d
-    | false ↦ d
+      | true ↦ there first (first + suc place) _ d
+      | false ↦ d
     ]
 
 pub places_inside : (test : NodeName → Bool) (graph : Graph) (n : ℕ) → Contains (places_from test 0 graph.nodes) n → n < length graph.nodes

@@ -46,7 +46,7 @@ edges_inside program labels graph whole e inside =
 
 -- ---- kinds
 
-true_not_false : true ≡ false → ⊥
+pub true_not_false : true ≡ false → ⊥
 true_not_false h = let P : Bool → Type 0 = λ b. elim b [ true ↦ Unit {0} | false ↦ ⊥ ] in subst P h tt
 
 hidden_kind : (labels : Labels) (observer : ℕ) (label : Option Label) (kind : NodeKind) → is_kind_on Hidden labels observer label kind ≡ true
@@ -168,14 +168,14 @@ module _ (program : Program) (labels : Labels) (graph : Graph) (whole : IsDepend
       let i : Instance = (node_named name).inst in
       let Is : NodeKind → Type 0 = λ kind. IsObserved program labels observer (node i kind) in
       elim (observed_kind labels observer (label_resolved labels name.resolved) name.kind on) [
-        inl k ↦
-          (let r = call_node program labels (node_named name) k.0 (node_as n name (Call k.0) at k.1) k.1 in
-          let label = named_label program labels name (Call k.0) k.0 (whole.resolved n name at) k.1 refl in
-          subst Is (sym k.1) (call i k.0 r.0 r.1 (ap (λ l. reaches labels observer (shown_at l)) (sym label) ∙ k.2)))
-      | inr k ↦
-          (let r = argument_node program labels (node_named name) k.0 0 (node_as n name (Arg k.0 0) at k.1) k.1 in
-          let label = named_label program labels name (Arg k.0 0) k.0 (whole.resolved n name at) k.1 refl in
-          subst Is (sym k.1) (let_out i k.0 r.0 r.1 (ap (λ l. reaches labels observer (lets_out l)) (sym label) ∙ k.2)))
+        | inl k ↦
+            (let r = call_node program labels (node_named name) k.0 (node_as n name (Call k.0) at k.1) k.1 in
+            let label = named_label program labels name (Call k.0) k.0 (whole.resolved n name at) k.1 refl in
+            subst Is (sym k.1) (call i k.0 r.0 r.1 (ap (λ l. reaches labels observer (shown_at l)) (sym label) ∙ k.2)))
+        | inr k ↦
+            (let r = argument_node program labels (node_named name) k.0 0 (node_as n name (Arg k.0 0) at k.1) k.1 in
+            let label = named_label program labels name (Arg k.0 0) k.0 (whole.resolved n name at) k.1 refl in
+            subst Is (sym k.1) (let_out i k.0 r.0 r.1 (ap (λ l. reaches labels observer (lets_out l)) (sym label) ∙ k.2)))
       ]
 
   -- a walk from what is hidden to what is observed is an illegal chain
@@ -191,12 +191,15 @@ module _ (program : Program) (labels : Labels) (graph : Graph) (whole : IsDepend
       let end_place : e.place ≡ walk_end chain.start chain.steps = omega (arith, e.number) in
       let end_found : slice_get graph.nodes (walk_end chain.start chain.steps) ≡ Some e.name = subst (λ n. slice_get graph.nodes n ≡ Some e.name) end_place e.found in
       let ends = walk_ends program labels graph whole chain.start from chain.steps at f.walk in
-      let last : node_named e.name ≡ end_of from (links_of graph chain.steps) = same_Some _ _ (sym (ap (option_map node_named) end_found) ∙ ends) in
-      (from, at, record {
-        start = hidden_at chain.start s.name found s.passes;
-        chain = walk_is_valid program labels graph whole chain.start from chain.steps at f.walk;
-        finish = subst (IsObserved program labels observer) last (observed_at (walk_end chain.start chain.steps) e.name end_found e.passes);
-      })
+      let last : node_named e.name ≡ end_of from (links_of graph chain.steps) = same_Some _ _ (sym (ap (option_map node_named) end_found) ∙ ends) in (
+        from,
+        at,
+        record {
+          start = hidden_at chain.start s.name found s.passes;
+          chain = walk_is_valid program labels graph whole chain.start from chain.steps at f.walk;
+          finish = subst (IsObserved program labels observer) last (observed_at (walk_end chain.start chain.steps) e.name end_found e.passes);
+        },
+      )
 
   -- ---- illegal chains are walks
 
@@ -212,7 +215,7 @@ module _ (program : Program) (labels : Labels) (graph : Graph) (whole : IsDepend
       let label = resolved_label n name.0 i (RetVal pc) pc name.1 name.2 refl in
       let kind : name.0.kind ≡ RetVal pc = ap (λ (y : Node). y.kind) name.2 in
       let on : is_on Hidden labels observer name.0 ≡ true =
-          ap (λ k. is_kind_on Hidden labels observer (label_resolved labels name.0.resolved) k) kind ∙ (ap (λ l. misses labels observer (brings l)) label ∙ miss) in
+      ap (λ k. is_kind_on Hidden labels observer (label_resolved labels name.0.resolved) k) kind ∙ (ap (λ l. misses labels observer (brings l)) label ∙ miss) in
       number_in (is_on Hidden labels observer) graph.nodes n name.0 name.1 on
 
   observed_number : (x : Node) → IsObserved program labels observer x → (n : ℕ) → graph_node graph n ≡ Some x → Contains (observed_nodes labels observer graph) n
@@ -221,14 +224,14 @@ module _ (program : Program) (labels : Labels) (graph : Graph) (whole : IsDepend
       let label = resolved_label n name.0 i (Call pc) pc name.1 name.2 refl in
       let kind : name.0.kind ≡ Call pc = ap (λ (y : Node). y.kind) name.2 in
       let on : is_on Observed labels observer name.0 ≡ true =
-          ap (λ k. is_kind_on Observed labels observer (label_resolved labels name.0.resolved) k) kind ∙ (ap (λ l. reaches labels observer (shown_at l)) label ∙ reach) in
+      ap (λ k. is_kind_on Observed labels observer (label_resolved labels name.0.resolved) k) kind ∙ (ap (λ l. reaches labels observer (shown_at l)) label ∙ reach) in
       number_in (is_on Observed labels observer) graph.nodes n name.0 name.1 on
   observed_number x (let_out i pc reached flow reach) n at =
       let name = named graph n (node i (Arg pc 0)) at in
       let label = resolved_label n name.0 i (Arg pc 0) pc name.1 name.2 refl in
       let kind : name.0.kind ≡ Arg pc 0 = ap (λ (y : Node). y.kind) name.2 in
       let on : is_on Observed labels observer name.0 ≡ true =
-          ap (λ k. is_kind_on Observed labels observer (label_resolved labels name.0.resolved) k) kind ∙ (ap (λ l. reaches labels observer (lets_out l)) label ∙ reach) in
+      ap (λ k. is_kind_on Observed labels observer (label_resolved labels name.0.resolved) k) kind ∙ (ap (λ l. reaches labels observer (lets_out l)) label ∙ reach) in
       number_in (is_on Observed labels observer) graph.nodes n name.0 name.1 on
 
   hidden_node : (x : Node) → IsHidden program labels observer x → IsNode program labels x

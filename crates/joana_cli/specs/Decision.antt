@@ -1,8 +1,16 @@
 -- What the decision over a class file and a policy says of the program that they make.
-use Rattle.std.specs.Prelude.{◌≡◌, ◌⊎◌, ℕ, List, Option}
+use Rattle.std.specs.Prelude.{◌≡◌, ◌⊎◌, ℕ, true, false, List, Option, Some, slice_get}
+use Rattle.class_read.specs.ClassGrammar.{IsClass, has_flag, native_flag}
+use Rattle.class_read.specs.declared.class_pool.ClassFile.{ClassFile}
+use Rattle.jo_prog.specs.declared.program.Method.{Method}
+use Rattle.jo_prog.specs.declared.program.Code.{Code}
+use Rattle.jo_prog.specs.Program.{code_at}
+use Rattle.jo_prog.specs.PlainCode.{IsPlainFrom}
+use Rattle.jo_prog.specs.Typing.{IsTyped}
+use Rattle.jo_prog.specs.Linking.{program_of}
 use Rattle.jo_prog.specs.declared.program.Program.{Program}
 use Rattle.jo_prog.specs.declared.labels.Labels.{Labels}
-use Rattle.joana_cli.specs.FirstForm.{IsFirstForm}
+use Rattle.joana_cli.specs.FirstForm.{IsFirstForm, is_of_prelude, is_under_object}
 use Rattle.joana_cli.specs.Words.{accepted_text}
 use Rattle.joana_cli.specs.Outcome.{CleanForAll, Reports, TookNothing, OutAfterText}
 use Rattle.joana_cli.specs.declared.status.Status.{Status}
@@ -11,6 +19,30 @@ use Rattle.joana_cli.specs.declared.status.InputFault.TheVariants.{NotBuilt as N
 use Rattle.joana_cli.specs.declared.status.OutsideFault.TheVariants.{Notes}
 use Rattle.joana_cli.specs.declared.check.Decision.{Decision}
 use Rattle.joana_cli.specs.declared.check.Decision.TheVariants.{NotBuilt, Accepted, Refused}
+
+-- the bytes are a class of its own below java/lang/Object, and this is its program
+pub record MakesProgram (class : List ℕ) (program : Program) : Type 0 where
+  pub file : ClassFile
+  pub is_class : IsClass class file
+  pub own_name : is_of_prelude file ≡ false
+  pub superclass : is_under_object file ≡ true
+  pub program_is : program ≡ program_of file
+
+-- each of the methods but the entry is native
+abbrev pub HasOneCode : List Method → ℕ → Type 0
+HasOneCode methods entry = (m : ℕ) (method : Method) → slice_get methods m ≡ Some method → (m ≡ entry) ⊎ (has_flag native_flag method.flags ≡ true)
+
+-- the entry's code is the only one, plain and typed
+pub record IsFormOf (program : Program) (labels : Labels) : Type 0 where
+  pub one_code : HasOneCode program.methods labels.entry
+  pub plain : (code : Code) × (code_at program labels.entry ≡ Some code) × IsPlainFrom program labels labels.entry code 0
+  pub typed : IsTyped program labels.entry
+
+-- the decision on a program of the first form
+abbrev pub IsVerdict : Program → Labels → Decision → Type 0
+IsVerdict program labels NotBuilt = ⊥
+IsVerdict program labels Accepted = CleanForAll program labels
+IsVerdict program labels (Refused text) = Reports program labels text.items
 
 abbrev pub Decides : List ℕ → List ℕ → Decision → Type 0
 Decides class policy NotBuilt = (program : Program) (labels : Labels) → IsFirstForm class policy program labels → ⊥

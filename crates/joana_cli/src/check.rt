@@ -1,8 +1,53 @@
 //! The command `check`: from the bytes of a class file and a policy to the verdict.
-ghost use Rattle.std.specs.Prelude.{IfOk};
-ghost use Rattle.joana_cli.specs.Decision.{Decides};
+ghost use Rattle.std.specs.Prelude.{◌≡◌, ◌↔◌, IfOk, IfNone, IfSome, IsTrue, unwrap_or, [], map};
+ghost use Rattle.std.specs.List.{list_any};
+ghost use Rattle.std.specs.Str.{bytes_eq};
+ghost use Rattle.class_read.specs.ClassGrammar.{class_name_at};
+ghost use Rattle.jo_prog.specs.declared.program.Program.{Program};
+ghost use Rattle.jo_prog.specs.PlainCode.{IsPlainProgram};
+ghost use Rattle.flow_graph.specs.Building.{HasShortCode};
+ghost use Rattle.joana_cli.specs.Decision.{Decides, MakesProgram, HasOneCode, IsFormOf, IsVerdict};
+ghost use Rattle.joana_cli.specs.FirstForm.{is_of_prelude, is_under_object};
 
+use crate::{jo_policy, low_run};
+use class_read::class_pool::{ClassFile, class_name_at};
+use class_read::jo_ids::MethodId;
+use class_read::read_class;
+use flow_graph::sdg;
+use jo_prog::labels::Labels;
+use jo_prog::program::{Method, Program};
+use jo_prog::{jvm_typing, linker};
 use std::alloc::{AllocError as Memory, Global};
+
+/// The flag ACC_NATIVE of a method.
+const NATIVE: u16 = 0x0100;
+
+/// The classes of the prelude, all of them in java/lang.
+const PRELUDE: [&str; 23] = [
+    "java/lang/Object",
+    "java/lang/String",
+    "java/lang/Runnable",
+    "java/lang/Thread",
+    "java/lang/Throwable",
+    "java/lang/Exception",
+    "java/lang/Error",
+    "java/lang/RuntimeException",
+    "java/lang/ArithmeticException",
+    "java/lang/NullPointerException",
+    "java/lang/ClassCastException",
+    "java/lang/IndexOutOfBoundsException",
+    "java/lang/ArrayStoreException",
+    "java/lang/NegativeArraySizeException",
+    "java/lang/IllegalArgumentException",
+    "java/lang/IllegalStateException",
+    "java/lang/IllegalMonitorStateException",
+    "java/lang/UnsupportedOperationException",
+    "java/lang/ArrayIndexOutOfBoundsException",
+    "java/lang/IllegalThreadStateException",
+    "java/lang/InterruptedException",
+    "java/lang/LinkageError",
+    "java/lang/IncompatibleClassChangeError",
+];
 
 /// What there is to say of the files.
 #[derive(Drop)]
@@ -13,8 +58,117 @@ pub enum Decision {
     Refused(Vec<u8>),
 }
 
-pub fn decide(_alloc: Global, _class: &[u8], _policy: &[u8]) -> Result<Decision, Memory>
-    ensures { IfOk result (Decides _class.now _policy.now) }
+/// The name that a class entry of the file names, empty where there is none.
+fn name_at(file: &ClassFile, index: u16) -> &[u8]
+    ensures { result.now ≡ unwrap_or (class_name_at file.now.pool index) [] }
 {
-    Err(Memory)
+    match class_name_at(file.pool.as_slice(), index) {
+        Some(name) => name,
+        None => b"",
+    }
+}
+
+/// Whether the text is one of the names.
+fn is_among(names: &[&str], text: &[u8]) -> bool
+    ensures { result ≡ list_any (λ name. bytes_eq name text.now) (map (λ name. name.now) names.now) }
+{
+    for name in names {
+        if name.as_bytes() == text {
+            return true;
+        }
+    }
+    false
+}
+
+/// Whether the class has a name of the prelude's.
+fn is_of_prelude(file: &ClassFile) -> bool
+    ensures { result ≡ is_of_prelude file.now }
+{
+    is_among(&PRELUDE, name_at(file, file.this_class))
+}
+
+fn is_under_object(file: &ClassFile) -> bool
+    ensures { result ≡ is_under_object file.now }
+{
+    name_at(file, file.super_class) == b"java/lang/Object".as_slice()
+}
+
+/// The program of a class file, where the class is one of its own below java/lang/Object.
+fn program_of(alloc: Global, class: &[u8]) -> Result<Option<Program>, Memory>
+    ensures program { IfOk result (λ found. IfSome found (MakesProgram class.now)) }
+    ensures none { IfOk result (λ found. IfNone found ((program : Program) → MakesProgram class.now program → ⊥)) }
+{
+    let file = match read_class(alloc, class)? {
+        Some(file) => file,
+        None => return Ok(None),
+    };
+    if is_of_prelude(&file) {
+        return Ok(None);
+    }
+    if !is_under_object(&file) {
+        return Ok(None);
+    }
+    match linker::link(alloc, &file) {
+        Ok(program) => Ok(Some(program)),
+        Err(memory) => Err(memory),
+    }
+}
+
+/// Whether every method but the entry is native.
+fn has_one_code(methods: &[Method], entry: MethodId) -> bool
+    ensures { IsTrue result ↔ HasOneCode methods.now entry }
+{
+    for (place, method) in methods.iter().enumerate() {
+        if place != entry.number() as usize && method.flags & NATIVE == 0 {
+            return false;
+        }
+    }
+    true
+}
+
+/// Whether the program with these labels is of the first form.
+fn is_first_form(alloc: Global, program: &Program, labels: &Labels) -> Result<bool, Memory>
+    ensures { IfOk result (λ yes. IsTrue yes ↔ IsFormOf program.now labels.now) }
+{
+    if !has_one_code(program.methods.as_slice(), labels.entry) {
+        return Ok(false);
+    }
+    if !jvm_typing::is_plain(program, labels) {
+        return Ok(false);
+    }
+    jvm_typing::is_typed(alloc, program, labels)
+}
+
+/// The verdict on a program of the first form.
+fn verdict(alloc: Global, program: &Program, labels: &Labels) -> Result<Decision, Memory>
+    requires plain { IsPlainProgram program.now labels.now }
+    requires short { HasShortCode program.now labels.now.entry }
+    ensures { IfOk result (IsVerdict program.now labels.now) }
+{
+    let graph = sdg::build(alloc, program, labels)?;
+    match low_run::refusal(alloc, program, labels, &graph)? {
+        Some(text) => Ok(Decision::Refused(text)),
+        None => Ok(Decision::Accepted),
+    }
+}
+
+/// The verdict on a class file and a policy.
+pub fn decide(alloc: Global, class: &[u8], policy: &[u8]) -> Result<Decision, Memory>
+    ensures { IfOk result (Decides class.now policy.now) }
+{
+    let program = match program_of(alloc, class)? {
+        Some(program) => program,
+        None => return Ok(Decision::NotBuilt),
+    };
+    let labels = match jo_policy::read_policy(alloc, policy, &program)? {
+        Some(labels) => labels,
+        None => return Ok(Decision::NotBuilt),
+    };
+    if !is_first_form(alloc, &program, &labels)? {
+        return Ok(Decision::NotBuilt);
+    }
+    match verdict(alloc, &program, &labels) {
+        Ok(decision) => Ok(decision),
+        Err(memory) => Err(memory),
+    }
 }

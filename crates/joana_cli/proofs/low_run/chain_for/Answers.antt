@@ -15,4 +15,4 @@ pub returns-clause-none : goal.returns-clause-none
 returns-clause-none c =
     let P : List ℕ → List ℕ → Type 0 = λ from to. IfOk c.find_walk.result (λ o. IfNone o ((n : ℕ) → Contains from n → WalksTo c.args.graph.now to n → ⊥)) in
     subst (λ (from : List ℕ). P from (observed_nodes c.args.labels.now c.args.observer c.args.graph.now)) (c.as_slice.ensures.value ∙ c.in_ok-hidden.ensures)
-        (subst (λ (to : List ℕ). P c.as_slice.result.now to) (c.as_slice-2.ensures.value ∙ c.in_ok-observed.ensures) c.find_walk.ensures.none)
+    (subst (λ (to : List ℕ). P c.as_slice.result.now to) (c.as_slice-2.ensures.value ∙ c.in_ok-observed.ensures) c.find_walk.ensures.none)

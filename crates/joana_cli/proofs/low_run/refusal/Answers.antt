@@ -36,11 +36,11 @@ loop-observer-preserved c =
     let read = slice_get_read c.as_slice-observer-items.result.now (length c.as_slice-observer-items.result.now) c.loop-observer.observer-index o refl c.loop-observer-test.true c.observer-item.is in
     let at = subst (λ (xs : List ℕ). slice_get xs c.loop-observer.observer-index ≡ Some o) c.as_slice-observer-items.ensures read in
     let none = subst (λ (x : Option Chain). IfNone x ((from : ℕ) → Contains (hidden_nodes labels o c.args.graph.now) from → WalksTo c.args.graph.now (observed_nodes labels o c.args.graph.now) from → ⊥))
-        c.in_default.is c.in_ok-chain.ensures.none in
+    c.in_default.is c.in_ok-chain.ensures.none in
     clean_more (Clean c.args.program.now labels) labels.observers c.loop-observer.observer-index o c.loop-observer.invariant at (no_walk_is_clean c.args.program.now labels c.args.graph.now c.requires o none)
 
 pub returns-clause-clean : goal.returns-clause-clean
 returns-clause-clean c =
     let beyond : length c.args.labels.now.observers ≤ c.loop-observer.observer-index =
-        subst (λ (xs : List ℕ). length xs ≤ c.loop-observer.observer-index) c.as_slice-observer-items.ensures c.loop-observer-test.false in
+    subst (λ (xs : List ℕ). length xs ≤ c.loop-observer.observer-index) c.as_slice-observer-items.ensures c.loop-observer-test.false in
     clean_all (Clean c.args.program.now c.args.labels.now) c.args.labels.now.observers c.loop-observer.observer-index c.loop-observer.invariant beyond

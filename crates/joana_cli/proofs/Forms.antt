@@ -1,0 +1,173 @@
+-- What the parts of the decision say of the first form.
+use Rattle.std.proofs.Common.{◌≡◌, ◌∙◌, ◌⊎◌, inl, inr, ℕ, zero, suc, ◌<◌, ◌^◌, Bool, true, false, not, ◌==◌, List, [], ◌∷◌, length, get_or, Option, Some, None, option_map, option_and_then, slice_get, bit_and, refl, sym, ap, subst, arith}
+use Rattle.std.proofs.lemmas.List.{length-map}
+use Rattle.std.proofs.lemmas.Option.{slice_get_read, slice_get-map, same_Some}
+use Rattle.std.specs.Str.{IsUtf8}
+use Rattle.toml.specs.Data.{Members}
+use Rattle.toml.specs.Parse.{parse_document}
+use Rattle.class_read.specs.Lists.{SpellsEach}
+use Rattle.class_read.specs.ClassGrammar.{IsClass, SpellsMethod, SpellsBody, has_flag, native_flag}
+use Rattle.class_read.specs.declared.class_pool.PoolEntry.{PoolEntry}
+use Rattle.class_read.specs.declared.class_pool.ClassFile.{ClassFile}
+use Rattle.class_read.specs.declared.class_pool.MethodInfo.{MethodInfo}
+use Rattle.class_read.specs.declared.class_pool.CodeInfo.{CodeInfo}
+use Rattle.class_read.proofs.ClassLemmas.{one_class}
+use Rattle.jo_prog.specs.declared.program.Program.{Program}
+use Rattle.jo_prog.specs.declared.program.Method.{Method}
+use Rattle.jo_prog.specs.declared.program.Code.{Code}
+use Rattle.jo_prog.specs.declared.labels.Labels.{Labels}
+use Rattle.jo_prog.specs.Program.{code_at}
+use Rattle.jo_prog.specs.Linking.{program_of, method_of, code_of}
+use Rattle.jo_prog.specs.Typing.{IsTypedCode}
+use Rattle.jo_prog.specs.PlainCode.{IsWellLabelled, IsPlainProgram}
+use Rattle.flow_graph.specs.Building.{HasShortCode}
+use Rattle.joana_cli.specs.PolicyFile.{policy_of}
+use Rattle.joana_cli.specs.Decision.{MakesProgram, IsFormOf, IsVerdict, Decides}
+use Rattle.joana_cli.specs.declared.check.Decision.{Decision}
+use Rattle.joana_cli.specs.declared.check.Decision.TheVariants.{NotBuilt, Accepted, Refused}
+use Rattle.joana_cli.specs.FirstForm.{is_of_prelude, is_under_object, IsFirstForm}
+use Rattle.joana_cli.proofs.Verdicts.{true_not_false}
+
+pub read_at : {X : Type 0} (xs : List X) (i : ℕ) (x : X) → i < length xs → x ≡ get_or xs i x → slice_get xs i ≡ Some x
+read_at xs i x below at = slice_get_read xs (length xs) i x refl below at
+
+-- no flag is set where its bit isn't
+pub lacks_native : (flags : ℕ) → bit_and flags native_flag ≡ 0 → has_flag native_flag flags ≡ true → ⊥
+lacks_native flags none set =
+    let zero_is : (bit_and flags native_flag == 0) ≡ true = ap (λ n. n == 0) none in
+    true_not_false (sym set ∙ ap not zero_is)
+
+pub few_methods : (bytes : List ℕ) (file : ClassFile) → IsClass bytes file → length file.methods < 2 ^ 32
+few_methods bytes file is = omega (arith, is.methods_length)
+
+pub no_program : (bytes : List ℕ) → ((file : ClassFile) → IsClass bytes file → ⊥) → (program : Program) → MakesProgram bytes program → ⊥
+no_program bytes none program m = none m.file m.is_class
+
+-- the class of the bytes is the one that was read
+pub wrong_name : (bytes : List ℕ) (file : ClassFile) → IsClass bytes file → true ≡ is_of_prelude file → (program : Program) → MakesProgram bytes program → ⊥
+wrong_name bytes file is of program m = true_not_false (of ∙ (ap is_of_prelude (sym (one_class bytes m.file file m.is_class is)) ∙ m.own_name))
+
+pub wrong_superclass : (bytes : List ℕ) (file : ClassFile) → IsClass bytes file → false ≡ is_under_object file → (program : Program) → MakesProgram bytes program → ⊥
+wrong_superclass bytes file is of program m = true_not_false (sym m.superclass ∙ (ap is_under_object (one_class bytes m.file file m.is_class is) ∙ sym of))
+
+-- ---- one program and one policy
+
+pub one_program : (bytes : List ℕ) (p q : Program) → MakesProgram bytes p → MakesProgram bytes q → p ≡ q
+one_program bytes p q m n = m.program_is ∙ (ap program_of (one_class bytes m.file n.file m.is_class n.is_class) ∙ sym n.program_is)
+
+-- a policy's text gives these labels to a program
+abbrev pub Labelled : List ℕ → Program → Labels → Type 0
+Labelled policy program labels = IsUtf8 policy × ((tree : Members) × (parse_document policy ≡ Some tree) × (policy_of tree program ≡ Some labels))
+
+pub one_policy : (policy : List ℕ) (program : Program) (l m : Labels) → Labelled policy program l → Labelled policy program m → l ≡ m
+one_policy policy program l m a b =
+    let same : a.1.0 ≡ b.1.0 = same_Some a.1.0 b.1.0 (sym a.1.1 ∙ b.1.1) in
+    same_Some l m (sym a.1.2 ∙ (ap (λ t. policy_of t program) same ∙ b.1.2))
+
+pub makes_of : (class policy : List ℕ) (program : Program) (labels : Labels) → IsFirstForm class policy program labels → MakesProgram class program
+makes_of class policy program labels f = record { file = f.file; is_class = f.is_class; own_name = f.own_name; superclass = f.superclass; program_is = f.program_is }
+
+pub labelled_of_form : (class policy : List ℕ) (program : Program) (labels : Labels) → IsFirstForm class policy program labels → Labelled policy program labels
+labelled_of_form class policy program labels f = (f.text, (f.tree, f.parsed, f.labels_are))
+
+pub form_of : (class policy : List ℕ) (program : Program) (labels : Labels) → IsFirstForm class policy program labels → IsFormOf program labels
+form_of class policy program labels f = record {
+  one_code = f.one_code;
+  plain = (f.plain.code, f.plain.found, f.plain.plain);
+  typed = (f.plain.code, f.plain.found, f.plain.typed);
+}
+
+pub plain_of : (program : Program) (labels : Labels) → IsWellLabelled program labels → IsFormOf program labels → IsPlainProgram program labels
+plain_of program labels well f =
+    let same : f.typed.0 ≡ f.plain.0 = same_Some f.typed.0 f.plain.0 (sym f.typed.1 ∙ f.plain.1) in
+    record {
+      well_labelled = well;
+      code = f.plain.0;
+      found = f.plain.1;
+      typed = subst (IsTypedCode program labels.entry) same f.typed.2;
+      plain = f.plain.2;
+    }
+
+pub first_form : (class policy : List ℕ) (program : Program) (labels : Labels) → MakesProgram class program → Labelled policy program labels → IsWellLabelled program labels → IsFormOf program labels
+    → IsFirstForm class policy program labels
+first_form class policy program labels m l well f = record {
+  file = m.file;
+  is_class = m.is_class;
+  own_name = m.own_name;
+  superclass = m.superclass;
+  program_is = m.program_is;
+  tree = l.1.0;
+  text = l.0;
+  parsed = l.1.1;
+  labels_are = l.1.2;
+  one_code = f.one_code;
+  plain = plain_of program labels well f;
+}
+
+-- ---- what isn't of the first form
+
+pub no_program_form : (class policy : List ℕ) → ((program : Program) → MakesProgram class program → ⊥) → (program : Program) (labels : Labels) → IsFirstForm class policy program labels → ⊥
+no_program_form class policy none program labels f = none program (makes_of class policy program labels f)
+
+pub no_policy_form : (class policy : List ℕ) (p : Program) → MakesProgram class p → ((tree : Members) → IsUtf8 policy → parse_document policy ≡ Some tree → policy_of tree p ≡ None)
+    → (program : Program) (labels : Labels) → IsFirstForm class policy program labels → ⊥
+no_policy_form class policy p m none program labels f =
+    let same = one_program class program p (makes_of class policy program labels f) m in
+    let absent : policy_of f.tree program ≡ None = ap (policy_of f.tree) same ∙ none f.tree f.text f.parsed in
+    some_not_none (sym f.labels_are ∙ absent)
+  where
+    some_not_none : {X : Type 0} {x : X} → Some x ≡ None → ⊥
+    some_not_none e = absurd (cc)
+
+pub no_form : (class policy : List ℕ) (p : Program) (l : Labels) → MakesProgram class p → Labelled policy p l → (IsFormOf p l → ⊥)
+    → (program : Program) (labels : Labels) → IsFirstForm class policy program labels → ⊥
+no_form class policy p l m a none program labels f =
+    let same = one_program class program p (makes_of class policy program labels f) m in
+    let Form : Program → Type 0 = λ q. Labelled policy q labels × IsFormOf q labels in
+    let moved : Labelled policy p labels × IsFormOf p labels = subst Form same (labelled_of_form class policy program labels f, form_of class policy program labels f) in
+    none (subst (IsFormOf p) (one_policy policy p labels l moved.0 a) moved.1)
+
+-- ---- the code is short
+
+methods_spelled : (pool : List PoolEntry) (methods : List MethodInfo) (bytes : List ℕ) (m : ℕ) (info : MethodInfo) → SpellsEach (SpellsMethod pool) methods bytes → slice_get methods m ≡ Some info
+    → (text : List ℕ) × SpellsMethod pool info text
+methods_spelled pool [] bytes m info s e = absurd (cc)
+methods_spelled pool (x ∷ xs) bytes zero info s e = (s.0, subst (λ i. SpellsMethod pool i s.0) (same_Some x info e) s.3)
+methods_spelled pool (x ∷ xs) bytes (suc m) info s e = methods_spelled pool xs s.1 m info s.4 e
+
+short_info : (pool : List PoolEntry) (found : Option CodeInfo) (text : List ℕ) (code : Code) → SpellsBody pool found text → option_map code_of found ≡ Some code
+    → (length code.bytes < 2 ^ 16) × (code.max_stack < 2 ^ 16) × (code.max_locals < 2 ^ 16)
+short_info pool None text code s e = absurd (cc)
+short_info pool (Some info) text code s e =
+    let Short : Code → Type 0 = λ c. (length c.bytes < 2 ^ 16) × (c.max_stack < 2 ^ 16) × (c.max_locals < 2 ^ 16) in
+    subst Short (same_Some (code_of info) code e) (s.5.short, s.5.stack, s.5.locals)
+
+short_method : (pool : List PoolEntry) (methods : List MethodInfo) (bytes : List ℕ) (m : ℕ) (found : Option MethodInfo) (code : Code) → SpellsEach (SpellsMethod pool) methods bytes
+    → slice_get methods m ≡ found → option_and_then (λ (x : Method). x.code) (option_map (method_of pool) found) ≡ Some code
+    → (length code.bytes < 2 ^ 16) × (code.max_stack < 2 ^ 16) × (code.max_locals < 2 ^ 16)
+short_method pool methods bytes m None code s e h = absurd (cc)
+short_method pool methods bytes m (Some info) code s e h =
+    let text = methods_spelled pool methods bytes m info s e in
+    short_info pool info.code text.1.body code text.1.body_spelled h
+
+pub short_code : (class : List ℕ) (program : Program) (m : ℕ) → MakesProgram class program → HasShortCode program m
+unfolding program_of
+short_code class program m made code at =
+    let file = made.file in
+    let found : code_at (program_of file) m ≡ Some code = subst (λ p. code_at p m ≡ Some code) made.program_is at in
+    let mapped = slice_get-map (method_of file.pool) file.methods m in
+    let h = subst (λ o. option_and_then (λ (x : Method). x.code) o ≡ Some code) mapped found in
+    short_method file.pool file.methods made.is_class.method_bytes m (slice_get file.methods m) code made.is_class.methods refl h
+
+pub few_of_program : (class : List ℕ) (program : Program) → MakesProgram class program → length program.methods < 2 ^ 32
+unfolding program_of
+few_of_program class program made =
+    let same : length program.methods ≡ length (program_of made.file).methods = ap (λ (p : Program). length p.methods) made.program_is in
+    let mapped = length-map made.file.methods (method_of made.file.pool) in
+    omega (arith, same, mapped, made.is_class.methods_length)
+
+-- the verdict on the program is the decision on the bytes
+pub decided : (class policy : List ℕ) (program : Program) (labels : Labels) (decision : Decision) → IsFirstForm class policy program labels → IsVerdict program labels decision → Decides class policy decision
+decided class policy program labels NotBuilt form v = absurd v
+decided class policy program labels Accepted form v = (program, labels, form, v)
+decided class policy program labels (Refused text) form v = (program, labels, form, v)
