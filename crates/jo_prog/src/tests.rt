@@ -188,16 +188,22 @@ fn runs_a_class(rt: HostRuntime) -> Result<(), Fail> {
     let class = class(rt.alloc())?;
     assert_eq!(rt; class.methods.as_slice().len(), 4);
     let program = link(rt.alloc(), &class)?;
-    let numbers = [0, 7, 1, 4294967295, 2, 0, 3, 5, 0, 1];
-    for (got, steps, want) in [
-        (Some(5), 10, (Some((2, 6)), true)),
-        (Some(5), 9, (Some((2, 6)), true)),
-        (Some(5), 7, (None, false)),
-        (Some(2147483647), 9, (Some((2, -2147483648)), true)),
-        (None, 9, (Some((2, 1)), true)),
-    ] {
-        let schedule = numbers.get(..steps).ok_or("too many steps")?;
-        assert_eq!(rt; outcome(rt.alloc(), &program, got, schedule)?, want);
-    }
+    let numbers = [0, 7, 1, 4294967295, 2, 0, 3, 5, 0];
+    assert_eq!(rt;
+        outcome(rt.alloc(), &program, Some(5), &numbers)?,
+        (Some((2, 6)), true)
+    );
+    assert_eq!(rt;
+        outcome(rt.alloc(), &program, Some(5), &numbers[..7])?,
+        (None, false)
+    );
+    assert_eq!(rt;
+        outcome(rt.alloc(), &program, Some(i32::MAX), &numbers)?,
+        (Some((2, i32::MIN)), true)
+    );
+    assert_eq!(rt;
+        outcome(rt.alloc(), &program, None, &numbers)?,
+        (Some((2, 1)), true)
+    );
     Ok(())
 }
