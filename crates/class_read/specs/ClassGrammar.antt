@@ -1,13 +1,13 @@
 -- The grammar of class files (JVM Specification SE 8, 4.1 to 4.7), in its part with the pool tags 1, 7, 10 and 12, no
 -- interfaces, fields, exception rows or attributes but one Code in each method that has code, and plain instructions.
 -- It relates whole lists of bytes to classes.
-use Rattle.std.specs.Prelude.{◌≡◌, ◌⊎◌, ℕ, zero, suc, ◌+◌, ◌^◌, ◌<◌, ◌≤◌, List, [], ◌∷◌, ◌++◌, length, Option, Some, None, IsSome, IsNone, IsSomeAnd, codes, bit_and, slice_get, Bool, true, false, not, ◌==◌}
-use Rattle.std.specs.List.{AllByRecursion, flat_map}
+use Rattle.std.specs.Prelude.{◌≡◌, ◌⊎◌, ℕ, zero, suc, ◌+◌, ◌^◌, ◌<◌, ◌≤◌, List, [], ◌∷◌, ◌++◌, length, Option, Some, None, IsSomeAnd, codes, bit_and, slice_get, Bool, true, false, not, ◌==◌}
+use Rattle.std.specs.List.{AllByRecursion}
 use Rattle.class_read.specs.Lists.{u2, u4, SpellsEach}
 use Rattle.class_read.specs.Text.{IsMemberName, IsFieldDesc, IsMethodDesc, IsClassOrArray, IsClassName}
 use Rattle.class_read.specs.Opcodes.{decoded}
 use Rattle.class_read.specs.declared.jo_insn.Insn.{Insn}
-use Rattle.class_read.specs.declared.jo_insn.Insn.TheVariants.{Plain, Local, Iinc, Push, Pooled, Array, Jump, TableSwitch, LookupSwitch}
+use Rattle.class_read.specs.declared.jo_insn.Insn.TheVariants.{Pooled}
 use Rattle.class_read.specs.declared.class_pool.PoolEntry.{PoolEntry}
 use Rattle.class_read.specs.declared.class_pool.PoolEntry.TheVariants.{Utf8, Class, MethodRef, NameAndType}
 use Rattle.class_read.specs.declared.class_pool.ClassFile.{ClassFile}

@@ -1,6 +1,6 @@
 -- The instructions of plain code: their spelling, and what they do (JVM Specification SE 8, chapter 6).
 -- No instruction that may throw writes a local: the definitions that reach a place rest on it.
-use Rattle.std.specs.Prelude.{◌≡◌, ℕ, ◌+◌, ◌-◌, ◌*◌, ◌≤◌, Bool, true, false, ◌&&◌, nat_le, nat_lt, ◌==◌, if◌then◌else◌, ℤ, pos, ◌-ℤ◌, List, length, slice_index, Option, Some, None}
+use Rattle.std.specs.Prelude.{ℕ, ◌+◌, ◌-◌, ◌*◌, Bool, false, ◌&&◌, nat_le, nat_lt, ◌==◌, if◌then◌else◌, ℤ, pos, ◌-ℤ◌, List, length, slice_index, Option, Some, None}
 use Rattle.class_read.specs.declared.jo_insn.Insn.{Insn}
 use Rattle.class_read.specs.declared.jo_insn.Insn.TheVariants.{Plain, Local, Iinc, Push, Pooled, Array, Jump, TableSwitch, LookupSwitch}
 use Rattle.class_read.specs.declared.jo_insn.Operation.{Operation}

@@ -1,7 +1,7 @@
 -- Names and descriptors (JVM Specification SE 8, 4.2.1, 4.2.2, 4.3.2, 4.3.3, 4.4.1). That a member's name has no
 -- `(` and no `:` is this project's own rule.
-use Rattle.std.specs.Prelude.{◌≡◌, ◌⊎◌, ℕ, ◌<◌, ◌≤◌, Bool, true, false, ◌&&◌, ◌||◌, ◌==◌, not, List, [], ◌∷◌, ◌++◌, length, replicate, codes}
-use Rattle.std.specs.List.{list_any, list_all, concat, AllByRecursion}
+use Rattle.std.specs.Prelude.{◌≡◌, ◌⊎◌, ℕ, ◌<◌, ◌≤◌, Bool, true, false, ◌==◌, List, [], ◌∷◌, ◌++◌, length, replicate, codes}
+use Rattle.std.specs.List.{list_any, concat, AllByRecursion}
 
 -- the byte is one of these
 abbrev pub is_one_of : List ℕ → ℕ → Bool
