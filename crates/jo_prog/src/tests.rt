@@ -1,4 +1,4 @@
-//! A class from its parts to its runs. Its source is
+//! A class file, from its bytes to its runs. Its source is
 //! `class Main { static native int secret(); static native int get(); static native void show(int i);
 //! static void main() { int i = get(); int s = secret(); show(i + 1); } }`.
 
@@ -8,96 +8,34 @@ use crate::linker::{add, link};
 use crate::program::Program;
 use crate::runner::run;
 use crate::runs::{Event, Inputs, SourceInput, Trace};
-use class_read::class_pool::{ClassFile, CodeInfo, MethodInfo, Pool, PoolEntry};
 use class_read::jo_ids::{LevelId, List, Memory, MethodId};
 use class_read::jo_text::Name;
+use class_read::read_class;
 use std::alloc::Global;
 use std::test::Fail;
 
-/// 0 invokestatic get, 3 istore_0, 4 invokestatic secret, 7 istore_1, 8 iload_0, 9 iconst_1, 10 iadd, 11 invokestatic
-/// show, 14 return.
-static CODE: [u8; 15] = [
-    0xb8, 0, 14, 0x3b, 0xb8, 0, 16, 0x3c, 0x1a, 0x04, 0x60, 0xb8, 0, 18, 0xb1,
-];
-
-static TEXTS: [&str; 10] = [
-    "Main",
-    "java/lang/Object",
-    "secret",
-    "()I",
-    "get",
-    "show",
-    "(I)V",
-    "main",
-    "()V",
-    "Code",
+/// Its code: 0 invokestatic get, 3 istore_0, 4 invokestatic secret, 7 istore_1, 8 iload_0, 9 iconst_1, 10 iadd,
+/// 11 invokestatic show, 14 return.
+const MAIN: [u8; 206] = [
+    0xca, 0xfe, 0xba, 0xbe, 0x00, 0x00, 0x00, 0x34, 0x00, 0x13, 0x01, 0x00, 0x04, 0x4d, 0x61, 0x69,
+    0x6e, 0x07, 0x00, 0x01, 0x01, 0x00, 0x10, 0x6a, 0x61, 0x76, 0x61, 0x2f, 0x6c, 0x61, 0x6e, 0x67,
+    0x2f, 0x4f, 0x62, 0x6a, 0x65, 0x63, 0x74, 0x07, 0x00, 0x03, 0x01, 0x00, 0x06, 0x73, 0x65, 0x63,
+    0x72, 0x65, 0x74, 0x01, 0x00, 0x03, 0x28, 0x29, 0x49, 0x01, 0x00, 0x03, 0x67, 0x65, 0x74, 0x01,
+    0x00, 0x04, 0x73, 0x68, 0x6f, 0x77, 0x01, 0x00, 0x04, 0x28, 0x49, 0x29, 0x56, 0x01, 0x00, 0x04,
+    0x6d, 0x61, 0x69, 0x6e, 0x01, 0x00, 0x03, 0x28, 0x29, 0x56, 0x01, 0x00, 0x04, 0x43, 0x6f, 0x64,
+    0x65, 0x0c, 0x00, 0x07, 0x00, 0x06, 0x0a, 0x00, 0x02, 0x00, 0x0d, 0x0c, 0x00, 0x05, 0x00, 0x06,
+    0x0a, 0x00, 0x02, 0x00, 0x0f, 0x0c, 0x00, 0x08, 0x00, 0x09, 0x0a, 0x00, 0x02, 0x00, 0x11, 0x00,
+    0x20, 0x00, 0x02, 0x00, 0x04, 0x00, 0x00, 0x00, 0x00, 0x00, 0x04, 0x01, 0x08, 0x00, 0x05, 0x00,
+    0x06, 0x00, 0x00, 0x01, 0x08, 0x00, 0x07, 0x00, 0x06, 0x00, 0x00, 0x01, 0x08, 0x00, 0x08, 0x00,
+    0x09, 0x00, 0x00, 0x00, 0x08, 0x00, 0x0a, 0x00, 0x0b, 0x00, 0x01, 0x00, 0x0c, 0x00, 0x00, 0x00,
+    0x1b, 0x00, 0x02, 0x00, 0x02, 0x00, 0x00, 0x00, 0x0f, 0xb8, 0x00, 0x0e, 0x3b, 0xb8, 0x00, 0x10,
+    0x3c, 0x1a, 0x04, 0x60, 0xb8, 0x00, 0x12, 0xb1, 0x00, 0x00, 0x00, 0x00, 0x00, 0x00,
 ];
 
 fn named(alloc: Global, text: &[u8]) -> Result<Name, Memory> {
     let mut name = Name::new(alloc);
     name.append(text)?;
     Ok(name)
-}
-
-fn pool(alloc: Global) -> Result<Pool, Memory> {
-    let mut pool = List::new(alloc);
-    for text in &TEXTS {
-        add(&mut pool, PoolEntry::Utf8(named(alloc, text.as_bytes())?))?;
-    }
-    for entry in [
-        PoolEntry::Class(1),
-        PoolEntry::Class(2),
-        PoolEntry::NameAndType(5, 4),
-        PoolEntry::MethodRef(11, 13),
-        PoolEntry::NameAndType(3, 4),
-        PoolEntry::MethodRef(11, 15),
-        PoolEntry::NameAndType(6, 7),
-        PoolEntry::MethodRef(11, 17),
-    ] {
-        add(&mut pool, entry)?;
-    }
-    Ok(pool)
-}
-
-fn class(alloc: Global) -> Result<ClassFile, Memory> {
-    let mut methods = List::new(alloc);
-    for (name, desc) in [(3, 4), (5, 4), (6, 7)] {
-        add(
-            &mut methods,
-            MethodInfo {
-                flags: 0x0108,
-                name,
-                desc,
-                code: None,
-            },
-        )?;
-    }
-    let code = CodeInfo {
-        max_stack: 2,
-        max_locals: 2,
-        bytes: named(alloc, &CODE)?,
-        rows: List::new(alloc),
-    };
-    add(
-        &mut methods,
-        MethodInfo {
-            flags: 0x0008,
-            name: 8,
-            desc: 9,
-            code: Some(code),
-        },
-    )?;
-    Ok(ClassFile {
-        minor: 0,
-        major: 52,
-        pool: pool(alloc)?,
-        flags: 0x0020,
-        this_class: 11,
-        super_class: 12,
-        interfaces: List::new(alloc),
-        fields: List::new(alloc),
-        methods,
-    })
 }
 
 fn labels(alloc: Global) -> Result<Labels, Memory> {
@@ -171,33 +109,39 @@ fn outcome(
     Ok((shown(&trace)?, trace.ended))
 }
 
+fn program(alloc: Global) -> Result<Program, Fail> {
+    let class = read_class(alloc, &MAIN)?.ok_or("it is a class")?;
+    Ok(link(alloc, &class)?)
+}
+
 #[test]
-fn links_and_types_a_class(rt: HostRuntime) -> Result<(), Fail> {
-    let alloc = rt.alloc();
-    let class = class(alloc)?;
-    assert_eq!(rt; class.methods.as_slice().len(), 4);
-    let program = link(alloc, &class)?;
-    let labels = labels(alloc)?;
+fn types_a_class(rt: HostRuntime) -> Result<(), Fail> {
+    let program = program(rt.alloc())?;
+    let labels = labels(rt.alloc())?;
     assert!(rt; is_plain(&program, &labels));
-    assert!(rt; is_typed(alloc, &program, &labels)?);
+    assert!(rt; is_typed(rt.alloc(), &program, &labels)?);
     Ok(())
 }
 
 #[test]
 fn runs_a_class(rt: HostRuntime) -> Result<(), Fail> {
-    let class = class(rt.alloc())?;
-    assert_eq!(rt; class.methods.as_slice().len(), 4);
-    let program = link(rt.alloc(), &class)?;
-    let numbers = [0, 7, 1, 4294967295, 2, 0, 3, 5, 0, 1];
-    for (got, steps, want) in [
-        (Some(5), 10, (Some((2, 6)), true)),
-        (Some(5), 9, (Some((2, 6)), true)),
-        (Some(5), 7, (None, false)),
-        (Some(2147483647), 9, (Some((2, -2147483648)), true)),
-        (None, 9, (Some((2, 1)), true)),
-    ] {
-        let schedule = numbers.get(..steps).ok_or("too many steps")?;
-        assert_eq!(rt; outcome(rt.alloc(), &program, got, schedule)?, want);
-    }
+    let program = program(rt.alloc())?;
+    let numbers = [0, 7, 1, 4294967295, 2, 0, 3, 5, 0];
+    assert_eq!(rt;
+        outcome(rt.alloc(), &program, Some(5), &numbers)?,
+        (Some((2, 6)), true)
+    );
+    assert_eq!(rt;
+        outcome(rt.alloc(), &program, Some(5), &numbers[..7])?,
+        (None, false)
+    );
+    assert_eq!(rt;
+        outcome(rt.alloc(), &program, Some(i32::MAX), &numbers)?,
+        (Some((2, i32::MIN)), true)
+    );
+    assert_eq!(rt;
+        outcome(rt.alloc(), &program, None, &numbers)?,
+        (Some((2, 1)), true)
+    );
     Ok(())
 }
