@@ -1,16 +1,16 @@
 -- The worked program is plain, and its labels fit.
-use Rattle.std.proofs.Common.{◌≡◌, ℕ, zero, suc, Bool, true, false, List, [], ◌∷◌, length, Option, Some, None, IsSome, refl, sym, ap, subst, ◌∙◌, arith, rules, pos}
+use Rattle.std.proofs.Common.{◌≡◌, ℕ, zero, suc, true, [], ◌∷◌, Some, None, IsSome, refl, ap, ◌∙◌, arith, rules, pos}
 use Rattle.std.proofs.lemmas.Bool.{false≢true}
 use Rattle.std.proofs.lemmas.Option.{none-some, same_Some}
 use Rattle.class_read.specs.Opcodes.{decoded, operation_of}
 use Rattle.class_read.specs.ClassGrammar.{has_flag, native_flag}
-use Rattle.class_read.specs.declared.jo_insn.Operation.TheVariants.{Constant, Load, Store, Add, InvokeStatic, Return}
+use Rattle.class_read.specs.declared.jo_insn.Operation.TheVariants.{Constant, Load, Store, Add, InvokeStatic}
 use Rattle.jo_prog.specs.declared.program.Method.{Method}
 use Rattle.jo_prog.specs.Labels.{label_of}
 use Rattle.jo_prog.specs.Program.{method_at}
 use Rattle.jo_prog.specs.PlainCode.{IsWellLabelled, IsPlainProgram, IsPlainFrom, last, then}
 use Rattle.jo_prog.specs.Typing.{Int, Unset, Shape, Arrives, at_start, by_step, IsTypedCode}
-use Rattle.jo_prog.specs.Worked.{native, worked_code, worked_program, worked_labels}
+use Rattle.jo_prog.specs.Worked.{worked_code, worked_program, worked_labels}
 use Rattle.jo_prog.proofs.TypingPaths.{typed_from_end}
 
 abbrev shape_0 : Shape
@@ -64,12 +64,15 @@ worked_labelled = record {
   pairs = ((omega arith, omega arith), tt);
   observers = (omega arith, tt);
   entry = record { method = _; found = refl; is_static = refl; has_code = refl; shape = refl };
-  natives =
-    ( record { method = _; found = refl; is_static = refl; is_native = refl; no_code = refl; shape = refl; levels = omega arith }
-    , ( record { method = _; found = refl; is_static = refl; is_native = refl; no_code = refl; shape = refl; levels = omega arith }
-      , ( record { method = _; found = refl; is_static = refl; is_native = refl; no_code = refl; shape = refl; levels = omega arith }, tt ) ) );
+  natives = (
+    record { method = _; found = refl; is_static = refl; is_native = refl; no_code = refl; shape = refl; levels = omega arith },
+    (
+      record { method = _; found = refl; is_static = refl; is_native = refl; no_code = refl; shape = refl; levels = omega arith },
+      (record { method = _; found = refl; is_static = refl; is_native = refl; no_code = refl; shape = refl; levels = omega arith }, tt),
+    ),
+  );
   in_order = search rules;
-  each_native = each_native
+  each_native = each_native;
 }
 
 pub worked_is_plain : IsPlainProgram worked_program worked_labels

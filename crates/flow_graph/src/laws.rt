@@ -15,8 +15,7 @@ pub fn chains_are_walks()
         → IsDependenceGraph program labels graph
         → graph_node graph i ≡ Some a → graph_node graph j ≡ Some b
         → HasChain program labels a b ↔ WalksTo graph (j ∷ []) i }
-{
-}
+{}
 
 /// The links of a walk are a valid chain to the node at its end.
 pub fn walks_are_chains()
@@ -26,11 +25,9 @@ pub fn walks_are_chains()
     ensures end { (program : Program) (labels : Labels) (graph : Graph) (i : ℕ) (a : Node) (steps : Items Step)
         → IsDependenceGraph program labels graph → graph_node graph i ≡ Some a → IsWalk graph i steps
         → graph_node graph (walk_end i steps) ≡ Some (end_of a (links_of graph steps)) }
-{
-}
+{}
 
 /// The edges of a dependence graph are between its nodes, as a search for walks wants them.
 pub fn graphs_have_edges_inside()
     ensures { (program : Program) (labels : Labels) (graph : Graph) → IsDependenceGraph program labels graph → HasEdgesInside graph }
-{
-}
+{}

@@ -172,9 +172,18 @@ fn labels(alloc: Global) -> Result<Labels, Memory>
     let mut observers = List::new(alloc);
     add(&mut observers, LevelId::of(0))?;
     let mut labelled = List::new(alloc);
-    add(&mut labelled, (MethodId::of(0), Label::Source(LevelId::of(1))))?;
-    add(&mut labelled, (MethodId::of(1), Label::Source(LevelId::of(0))))?;
-    add(&mut labelled, (MethodId::of(2), Label::Sink(LevelId::of(0))))?;
+    add(
+        &mut labelled,
+        (MethodId::of(0), Label::Source(LevelId::of(1))),
+    )?;
+    add(
+        &mut labelled,
+        (MethodId::of(1), Label::Source(LevelId::of(0))),
+    )?;
+    add(
+        &mut labelled,
+        (MethodId::of(2), Label::Sink(LevelId::of(0))),
+    )?;
     Ok(Labels {
         levels,
         flows,
@@ -198,7 +207,12 @@ fn number_of(graph: &Graph, kind: NodeKind) -> Option<NodeId>
 }
 
 /// The kinds along a walk from one node to another.
-fn walk(alloc: Global, graph: &Graph, from: NodeKind, to: NodeKind) -> Result<Option<List<NodeKind>>, Memory>
+fn walk(
+    alloc: Global,
+    graph: &Graph,
+    from: NodeKind,
+    to: NodeKind,
+) -> Result<Option<List<NodeKind>>, Memory>
     requires small { length graph.now.nodes < 2 ^ 32 }
     requires edges { HasEdgesInside graph.now }
 {
@@ -209,7 +223,10 @@ fn walk(alloc: Global, graph: &Graph, from: NodeKind, to: NodeKind) -> Result<Op
         return Ok(None);
     };
     let mut kinds = List::new(alloc);
-    for number in [chain.start].iter().chain(chain.steps.as_slice().iter().map(|step| &step.to)) {
+    for number in [chain.start]
+        .iter()
+        .chain(chain.steps.as_slice().iter().map(|step| &step.to))
+    {
         if let Some(name) = graph.nodes.as_slice().get(number.number() as usize) {
             add(&mut kinds, name.kind)?;
         }
