@@ -1,6 +1,5 @@
 -- Lists of edges and tables of definitions as they grow.
 use Rattle.std.proofs.Common.{◌≡◌, ◌==◌, ℕ, cond, Bool, true, false, ◌&&◌, List, [], ◌∷◌, ◌++◌, Contains, refl, sym, ap, subst, ◌∙◌, arith, append_assoc}
-use Rattle.std.specs.Prelude.{if◌then◌else◌}
 use Rattle.std.proofs.lemmas.List.{append-nil}
 use Rattle.class_read.specs.declared.jo_insn.Operation.{Operation}
 use Rattle.flow_graph.specs.declared.flow.Place.{Place}

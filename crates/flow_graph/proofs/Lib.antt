@@ -8,3 +8,4 @@ pub mod PlainSteps
 pub mod PlainCalls
 pub mod PlainTyping
 pub mod PlainWalk
+pub mod WorkedPlain

@@ -1,7 +1,6 @@
 -- Lists of node names that grow at the end, with each node once.
 use Rattle.std.proofs.Common.{◌≡◌, ◌⊎◌, inl, inr, ℕ, zero, suc, ◌+◌, ◌*◌, ◌<◌, ◌≤◌, List, [], ◌∷◌, ◌++◌, length, Option, Some, None, Contains, slice_get, option_map, refl, sym, ap, subst, ◌∙◌, arith}
 use Rattle.std.proofs.lemmas.Option.{none-some, same_Some}
-use Rattle.std.proofs.lemmas.List.Elements.{Contains-append_cases}
 use Rattle.jo_prog.specs.declared.program.Program.{Program}
 use Rattle.jo_prog.specs.declared.labels.Labels.{Labels}
 use Rattle.flow_graph.specs.declared.flow.NodeKind.{NodeKind}
@@ -65,8 +64,9 @@ node-push_cases : (nodes : List NodeName) (name : NodeName) (j : ℕ) (n : Node)
 node-push_cases nodes name j n e =
     let m = mapped node_named (slice_get (nodes ++ name ∷ []) j) n e in
     elim (slice_get-push_cases nodes name j m.0 m.1) [
-        inl old ↦ inl (ap (option_map node_named) old ∙ ap (λ x. Some x) m.2)
-      | inr new ↦ inr (new.0, ap node_named new.1 ∙ m.2) ]
+      | inl old ↦ inl (ap (option_map node_named) old ∙ ap (λ x. Some x) m.2)
+      | inr new ↦ inr (new.0, ap node_named new.1 ∙ m.2)
+    ]
 
 -- a number that rises with the pc
 abbrev pub rank : NodeKind → ℕ
@@ -93,7 +93,7 @@ module _ (program : Program) (labels : Labels) where
     only = λ j n e. absurd (none-some n e);
     once = λ i j n e f. absurd (none-some n e);
     below = λ j n e. absurd (none-some n e);
-    resolved = λ j name e. absurd (none-some name e)
+    resolved = λ j name e. absurd (none-some name e);
   }
 
   -- one node more, of a rank that none has yet
@@ -101,16 +101,18 @@ module _ (program : Program) (labels : Labels) where
       → AreNodes program labels (rank name.kind + 1) (nodes ++ name ∷ [])
   nodes-push bound nodes name h is_node fresh resolves =
       let apart : (j : ℕ) (n : Node) → node_in nodes j ≡ Some n → node_named name ≡ n → ⊥ =
-        λ j n e same. let b = h.below j n e in let r : rank name.kind ≡ rank n.kind = ap (λ (x : Node). rank x.kind) same in omega arith in
+      λ j n e same. let b = h.below j n e in let r : rank name.kind ≡ rank n.kind = ap (λ (x : Node). rank x.kind) same in omega arith in
       record {
         only = λ j n e. elim (node-push_cases nodes name j n e) [ inl old ↦ h.only j n old | inr here ↦ subst (λ x. IsNode program labels x) here.1 is_node ];
         once = λ i j n e f. elim (node-push_cases nodes name i n e) [
-            inl old ↦ elim (node-push_cases nodes name j n f) [ inl before ↦ h.once i j n old before | inr here ↦ absurd (apart i n old here.1) ]
-          | inr here ↦ elim (node-push_cases nodes name j n f) [ inl before ↦ absurd (apart j n before here.1) | inr too ↦ here.0 ∙ sym too.0 ] ];
+          | inl old ↦ elim (node-push_cases nodes name j n f) [ inl before ↦ h.once i j n old before | inr here ↦ absurd (apart i n old here.1) ]
+          | inr here ↦ elim (node-push_cases nodes name j n f) [ inl before ↦ absurd (apart j n before here.1) | inr too ↦ here.0 ∙ sym too.0 ]
+        ];
         below = λ j n e. elim (node-push_cases nodes name j n e) [
-            inl old ↦ let b = h.below j n old in omega arith
-          | inr here ↦ let r : rank name.kind ≡ rank n.kind = ap (λ (x : Node). rank x.kind) here.1 in omega arith ];
-        resolved = λ j x e. elim (slice_get-push_cases nodes name j x e) [ inl old ↦ h.resolved j x old | inr here ↦ subst (λ y. y.resolved ≡ resolved_of program y) here.1 resolves ]
+          | inl old ↦ let b = h.below j n old in omega arith
+          | inr here ↦ let r : rank name.kind ≡ rank n.kind = ap (λ (x : Node). rank x.kind) here.1 in omega arith
+        ];
+        resolved = λ j x e. elim (slice_get-push_cases nodes name j x e) [ inl old ↦ h.resolved j x old | inr here ↦ subst (λ y. y.resolved ≡ resolved_of program y) here.1 resolves ];
       }
 
   pub nodes-weaker : (bound more : ℕ) (nodes : List NodeName) → AreNodes program labels bound nodes → bound ≤ more → AreNodes program labels more nodes

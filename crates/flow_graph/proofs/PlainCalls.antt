@@ -1,10 +1,9 @@
 -- What the call of a source and that of a sink add to the graph.
-use Rattle.std.proofs.Common.{◌≡◌, ◌≢◌, ◌⊎◌, ◌==◌, inl, inr, ℕ, ◌+◌, ◌*◌, ◌-◌, ◌<◌, ◌≤◌, Bool, true, false, cond, List, [], ◌∷◌, ◌++◌, length, Option, Some, None, Contains, refl, sym, ap, subst, ◌∙◌, arith}
-use Rattle.std.proofs.lemmas.Bool.{cases_eq, false≢true, true≢false, eqb-true, eq-eqb, cases_Bool}
+use Rattle.std.proofs.Common.{◌≡◌, ◌==◌, inl, inr, ℕ, ◌+◌, ◌*◌, ◌-◌, ◌<◌, Bool, true, false, cond, List, [], ◌∷◌, ◌++◌, length, Option, Some, None, Contains, refl, sym, ap, subst, ◌∙◌, arith}
+use Rattle.std.proofs.lemmas.Bool.{cases_eq, false≢true, eqb-true, eq-eqb}
 use Rattle.std.proofs.lemmas.Option.{same_Some, some_pair_parts}
 use Rattle.std.proofs.lemmas.List.{length_push}
 use Rattle.std.proofs.lemmas.List.Elements.{Contains-append_left, Contains-append_right, Contains-append_cases, Contains-push, Contains-push_cases}
-use Rattle.class_read.specs.declared.jo_insn.Operation.{Operation}
 use Rattle.class_read.specs.declared.jo_insn.Operation.TheVariants.{InvokeStatic, Return}
 use Rattle.jo_prog.specs.declared.program.Program.{Program}
 use Rattle.jo_prog.specs.declared.program.Code.{Code}
@@ -16,25 +15,24 @@ use Rattle.jo_prog.specs.Program.{operation_at, callee_at}
 use Rattle.jo_prog.specs.Typing.{IsTypedCode, HasHeight}
 use Rattle.jo_prog.proofs.TypingPaths.{heights_same}
 use Rattle.flow_graph.specs.declared.flow.Place.{Place}
-use Rattle.flow_graph.specs.declared.flow.Place.TheVariants.{Local, Stack, Pending}
+use Rattle.flow_graph.specs.declared.flow.Place.TheVariants.{Stack}
 use Rattle.flow_graph.specs.declared.flow.NodeKind.{NodeKind}
-use Rattle.flow_graph.specs.declared.flow.NodeKind.TheVariants.{Entry, Exit, Instr, Call, RetVal, Arg, Kind}
-use Rattle.flow_graph.specs.declared.dep_nodes.EdgeKind.{EdgeKind}
-use Rattle.flow_graph.specs.declared.dep_nodes.EdgeKind.TheVariants.{Data, Control, Out, Heap}
+use Rattle.flow_graph.specs.declared.flow.NodeKind.TheVariants.{Entry, Instr, Call, RetVal, Arg, Kind}
+use Rattle.flow_graph.specs.declared.dep_nodes.EdgeKind.TheVariants.{Data, Control, Heap}
 use Rattle.flow_graph.specs.declared.dep_nodes.NodeName.{NodeName}
 use Rattle.flow_graph.specs.declared.dep_nodes.Edge.{Edge}
 use Rattle.flow_graph.specs.declared.sdg.Definitions.{Definitions}
 use Rattle.flow_graph.specs.declared.sdg.SourceResult.{SourceResult}
-use Rattle.flow_graph.specs.Flow.{node_at, calls_native, FlowEdge, calls, IsFlowNode, Reads, Writes, by_instr, by_result, ArgumentPlace, of_argument, arguments_at, results_at}
+use Rattle.flow_graph.specs.Flow.{node_at, calls_native, calls, IsFlowNode, Reads, Writes, by_instr, by_result, ArgumentPlace, of_argument, arguments_at, results_at}
 use Rattle.flow_graph.specs.Dependence.{Reaches}
-use Rattle.flow_graph.specs.Graph.{Node, node, at_entry, IsNode, of_flow, of_argument as argument_node, label_at, is_source, is_sink, UsesCursor, at_result, DependenceEdge, passed, shown, next_input}
+use Rattle.flow_graph.specs.Graph.{Node, node, at_entry, of_flow, of_argument as argument_node, label_at, is_source, is_sink, UsesCursor, at_result, passed, shown, next_input}
 use Rattle.flow_graph.specs.Chains.{pc_of}
 use Rattle.flow_graph.specs.GraphData.{edge}
 use Rattle.flow_graph.specs.Building.{definition_of, name_of, use_edges, control_edges, heap_edges}
-use Rattle.flow_graph.proofs.PlainLine.{flow_line, flow_on, reaches_flow}
-use Rattle.flow_graph.proofs.PlainReaching.{position, root, IsKindOf}
-use Rattle.flow_graph.proofs.NodeLists.{contains_one, contains_none, contains_first, node_in, NodesStay, stay-push, node-push, AreNodes, nodes-push, nodes-weaker, HasEdge, IsEdgeOf, edge_of-more}
-use Rattle.flow_graph.proofs.PlainSteps.{IsBuilt, IsDefined, CoversEdges, cursor_callee, each_edge-more, each_node-more, kind_at_call, instr_reads, instr_line, flow_kind, control_right, contains_cons, use_right, use_there}
+use Rattle.flow_graph.proofs.PlainLine.{flow_line, flow_on}
+use Rattle.flow_graph.proofs.PlainReaching.{position, root}
+use Rattle.flow_graph.proofs.NodeLists.{contains_one, contains_none, contains_first, node_in, NodesStay, stay-push, node-push, nodes-push, nodes-weaker, HasEdge, IsEdgeOf, edge_of-more}
+use Rattle.flow_graph.proofs.PlainSteps.{IsBuilt, IsDefined, CoversEdges, cursor_callee, each_edge-more, each_node-more, kind_at_call, instr_reads, flow_kind, control_right, contains_cons, use_right, use_there}
 
 -- ---- labels
 
@@ -74,30 +72,34 @@ heap_first_right program labels nodes x s r false is right e among = absurd (con
 heap_first_right program labels nodes x s r true is right e among =
     let both = right (eqb-true x.source s is) in
     elim (contains_cons (edge x.node Heap r) (edge r Heap x.node ∷ []) e among) [
-        inl first ↦ subst (λ y. IsEdgeOf program labels nodes y) first both.0
-      | inr second ↦ subst (λ y. IsEdgeOf program labels nodes y) (contains_one (edge r Heap x.node) e second) both.1 ]
+      | inl first ↦ subst (λ y. IsEdgeOf program labels nodes y) first both.0
+      | inr second ↦ subst (λ y. IsEdgeOf program labels nodes y) (contains_one (edge r Heap x.node) e second) both.1
+    ]
 
 heap_right : (program : Program) (labels : Labels) (nodes : List NodeName) (rs : List SourceResult) (s r : ℕ)
     → ((x : SourceResult) → Contains rs x → x.source ≡ s → IsEdgeOf program labels nodes (edge x.node Heap r) × IsEdgeOf program labels nodes (edge r Heap x.node)) → (e : Edge) → Contains (heap_edges rs s r) e → IsEdgeOf program labels nodes e
 heap_right program labels nodes [] s r right e among = absurd (contains_none e among)
 heap_right program labels nodes (x ∷ rs) s r right e among =
     elim (Contains-append_cases (cond (x.source == s) (edge x.node Heap r ∷ edge r Heap x.node ∷ []) []) (heap_edges rs s r) e among) [
-        inl first ↦ heap_first_right program labels nodes x s r (x.source == s) refl (right x (contains_first x rs)) e first
-      | inr rest ↦ heap_right program labels nodes rs s r (λ y is same. right y (Contains-append_right (x ∷ []) rs y is) same) e rest ]
+      | inl first ↦ heap_first_right program labels nodes x s r (x.source == s) refl (right x (contains_first x rs)) e first
+      | inr rest ↦ heap_right program labels nodes rs s r (λ y is same. right y (Contains-append_right (x ∷ []) rs y is) same) e rest
+    ]
 
 heap_there : (rs : List SourceResult) (s r : ℕ) (x : SourceResult) → Contains rs x → x.source ≡ s → Contains (heap_edges rs s r) (edge x.node Heap r) × Contains (heap_edges rs s r) (edge r Heap x.node)
 heap_there [] s r x among same = absurd (contains_none x among)
 heap_there (y ∷ rs) s r x among same =
     let group = cond (y.source == s) (edge y.node Heap r ∷ edge r Heap y.node ∷ []) [] in
     elim (contains_cons y rs x among) [
-        inl is ↦
+      | inl is ↦
           let ours : (y.source == s) ≡ true = eq-eqb y.source s (ap (λ (z : SourceResult). z.source) is ∙ same) in
-          let whole : group ≡ edge x.node Heap r ∷ edge r Heap x.node ∷ [] = ap (λ b. cond b (edge y.node Heap r ∷ edge r Heap y.node ∷ []) []) ours ∙ ap (λ (z : SourceResult). edge z.node Heap r ∷ edge r Heap z.node ∷ []) is in
-          ( Contains-append_left group (heap_edges rs s r) (edge x.node Heap r) (subst (λ l. Contains l (edge x.node Heap r)) (sym whole) (contains_first (edge x.node Heap r) (edge r Heap x.node ∷ [])))
-          , Contains-append_left group (heap_edges rs s r) (edge r Heap x.node) (subst (λ l. Contains l (edge r Heap x.node)) (sym whole) (Contains-append_right (edge x.node Heap r ∷ []) (edge r Heap x.node ∷ []) (edge r Heap x.node) (contains_first (edge r Heap x.node) []))) )
+          let whole : group ≡ edge x.node Heap r ∷ edge r Heap x.node ∷ [] = ap (λ b. cond b (edge y.node Heap r ∷ edge r Heap y.node ∷ []) []) ours ∙ ap (λ (z : SourceResult). edge z.node Heap r ∷ edge r Heap z.node ∷ []) is in (
+            Contains-append_left group (heap_edges rs s r) (edge x.node Heap r) (subst (λ l. Contains l (edge x.node Heap r)) (sym whole) (contains_first (edge x.node Heap r) (edge r Heap x.node ∷ []))),
+            Contains-append_left group (heap_edges rs s r) (edge r Heap x.node) (subst (λ l. Contains l (edge r Heap x.node)) (sym whole) (Contains-append_right (edge x.node Heap r ∷ []) (edge r Heap x.node ∷ []) (edge r Heap x.node) (contains_first (edge r Heap x.node) []))),
+          )
       | inr rest ↦
           let there = heap_there rs s r x rest same in
-          (Contains-append_right group (heap_edges rs s r) (edge x.node Heap r) there.0, Contains-append_right group (heap_edges rs s r) (edge r Heap x.node) there.1) ]
+          (Contains-append_right group (heap_edges rs s r) (edge x.node Heap r) there.0, Contains-append_right group (heap_edges rs s r) (edge r Heap x.node) there.1)
+    ]
 
 -- ---- calls
 
@@ -156,61 +158,72 @@ module _ (program : Program) (labels : Labels) (code : Code) (typed : IsTypedCod
           passes = λ x v a flows reach place. absurd (no_argument a v place);
           shows = λ v flows sink place. absurd (no_argument 0 v place);
           controls = λ n flows here. elim (kind_at_call program labels code typed pc call n (flow_kind program labels code typed n flows) here) [
-              inl is ↦ subst (λ x. HasEdge grown all (node (root labels) Entry) Control (node (root labels) x)) (sym is)
+            | inl is ↦ subst (λ x. HasEdge grown all (node (root labels) Entry) Control (node (root labels) x)) (sym is)
                 (0, j, first, at, in_3 (edge 0 Control j) (Contains-append_left (edges ++ c) d (edge 0 Control j) (Contains-append_right edges c (edge 0 Control j) (contains_first (edge 0 Control j) []))))
             | inr rest ↦ elim rest [
-                inl is ↦ subst (λ x. HasEdge grown all (node (root labels) Entry) Control (node (root labels) x)) (sym is)
+              | inl is ↦ subst (λ x. HasEdge grown all (node (root labels) Entry) Control (node (root labels) x)) (sym is)
                   (0, r, first, to, in_3 (edge 0 Control r) (Contains-append_right (edges ++ c) d (edge 0 Control r) (contains_first (edge 0 Control r) [])))
-              | inr argument ↦ absurd (no_argument_flow argument.0 n flows argument.2) ] ];
+              | inr argument ↦ absurd (no_argument_flow argument.0 n flows argument.2)
+            ]
+          ];
           ends = λ t flows ret. absurd (no_return t ret);
           inputs = λ named y mine other low.
-            let same = (cursor_source named mine).0 in
-            let ours : UsesCursor program labels s y = subst (λ x. UsesCursor program labels x y) same other in
-            elim (cases_eq (position y.kind) (pc + 1)) [
-                inl here ↦
-                  let is = cursor_at program labels pc s y ours here in
-                  let self : HasEdge grown all (node (root labels) (RetVal pc)) Heap (node (root labels) (RetVal pc)) = (r, r, to, to, Contains-append_right (edges ++ c ++ d ++ p) q (edge r Heap r) (contains_first (edge r Heap r) [])) in
-                  (subst (λ n. HasEdge grown all (node (root labels) (RetVal pc)) Heap n) (sym is) self, subst (λ n. HasEdge grown all n Heap (node (root labels) (RetVal pc))) (sym is) self)
-              | inr below ↦
-                  let was = built.each_result s y ours (omega arith) in
-                  let there = heap_there results s r (record { source = s; node = was.0 }) was.2 refl in
-                  ((r, was.0, to, stay was.0 y was.1, in_heap (edge r Heap was.0) there.1), (was.0, r, stay was.0 y was.1, to, in_heap (edge was.0 Heap r) there.0)) ]
+              let same = (cursor_source named mine).0 in
+              let ours : UsesCursor program labels s y = subst (λ x. UsesCursor program labels x y) same other in
+              elim (cases_eq (position y.kind) (pc + 1)) [
+                | inl here ↦
+                    let is = cursor_at program labels pc s y ours here in
+                    let self : HasEdge grown all (node (root labels) (RetVal pc)) Heap (node (root labels) (RetVal pc)) = (r, r, to, to, Contains-append_right (edges ++ c ++ d ++ p) q (edge r Heap r) (contains_first (edge r Heap r) [])) in
+                    (subst (λ n. HasEdge grown all (node (root labels) (RetVal pc)) Heap n) (sym is) self, subst (λ n. HasEdge grown all n Heap (node (root labels) (RetVal pc))) (sym is) self)
+                | inr below ↦
+                    let was = built.each_result s y ours (omega arith) in
+                    let there = heap_there results s r (record { source = s; node = was.0 }) was.2 refl in
+                    ((r, was.0, to, stay was.0 y was.1, in_heap (edge r Heap was.0) there.1), (was.0, r, stay was.0 y was.1, to, in_heap (edge was.0 Heap r) there.0))
+              ];
         } in
         record {
           nodes_right = nodes-weaker program labels (3 * pc + 6 + 1) (4 + 3 * (pc + 1)) grown
-            (nodes-push program labels (3 * pc + 4 + 1) mid result
+              (nodes-push program labels (3 * pc + 4 + 1) mid result
               (nodes-push program labels (4 + 3 * pc) nodes name built.nodes_right (of_flow (root labels) (Call pc) at_entry flow) (omega arith) (sym callee))
               (of_flow (root labels) (RetVal pc) at_entry returns) (omega arith) (sym callee)) (omega arith);
           few = (let l = length_push nodes name in let l2 = length_push mid result in let f = built.few in omega arith);
           each_node = each_node-more program labels code typed pc nodes grown stay built.each_node (λ x is here. elim (kind_at_call program labels code typed pc call x is here) [
-              inl same ↦ (j, at ∙ ap (λ y. Some (node (root labels) y)) (sym same))
-            | inr rest ↦ elim rest [ inl same ↦ (r, to ∙ ap (λ y. Some (node (root labels) y)) (sym same)) | inr argument ↦ absurd (no_argument argument.0 argument.1 argument.3) ] ]);
+            | inl same ↦ (j, at ∙ ap (λ y. Some (node (root labels) y)) (sym same))
+            | inr rest ↦ elim rest [ inl same ↦ (r, to ∙ ap (λ y. Some (node (root labels) y)) (sym same)) | inr argument ↦ absurd (no_argument argument.0 argument.1 argument.3) ]
+          ]);
           first = first;
           third = stay 2 (node (root labels) Kind) built.third;
           only_edges = λ e is. elim (Contains-append_cases (edges ++ c ++ d ++ p) q e is) [
-              inl x ↦ elim (Contains-append_cases (edges ++ c ++ d) p e x) [
-                  inl y ↦ elim (Contains-append_cases (edges ++ c) d e y) [
-                      inl z ↦ elim (Contains-append_cases edges c e z) [
-                          inl was ↦ edge_of-more program labels nodes grown e stay (built.only_edges e was)
-                        | inr control ↦ control_right program labels grown j (Call pc) flow (λ w. cc) (λ w. cc) first at e control ]
-                    | inr control ↦ control_right program labels grown r (RetVal pc) returns (λ w. cc) (λ w. cc) first to e control ]
-                | inr heap ↦ heap_right program labels grown results s r (λ x is_there same.
-                    let was = built.results_right x is_there in
-                    let other : UsesCursor program labels s was.0 = subst (λ o. UsesCursor program labels o was.0) same was.2 in
-                    ( (was.0, node (root labels) (RetVal pc), stay x.node was.0 was.1, to, next_input s was.0 (node (root labels) (RetVal pc)) other cursor)
-                    , (node (root labels) (RetVal pc), was.0, to, stay x.node was.0 was.1, next_input s (node (root labels) (RetVal pc)) was.0 cursor other) )) e heap ]
+            | inl x ↦ elim (Contains-append_cases (edges ++ c ++ d) p e x) [
+              | inl y ↦ elim (Contains-append_cases (edges ++ c) d e y) [
+                | inl z ↦ elim (Contains-append_cases edges c e z) [
+                  | inl was ↦ edge_of-more program labels nodes grown e stay (built.only_edges e was)
+                  | inr control ↦ control_right program labels grown j (Call pc) flow (λ w. cc) (λ w. cc) first at e control
+                ]
+                | inr control ↦ control_right program labels grown r (RetVal pc) returns (λ w. cc) (λ w. cc) first to e control
+              ]
+              | inr heap ↦ heap_right program labels grown results s r (λ x is_there same.
+                  let was = built.results_right x is_there in
+                  let other : UsesCursor program labels s was.0 = subst (λ o. UsesCursor program labels o was.0) same was.2 in (
+                    (was.0, node (root labels) (RetVal pc), stay x.node was.0 was.1, to, next_input s was.0 (node (root labels) (RetVal pc)) other cursor),
+                    (node (root labels) (RetVal pc), was.0, to, stay x.node was.0 was.1, next_input s (node (root labels) (RetVal pc)) was.0 cursor other),
+                  )) e heap
+            ]
             | inr self ↦ subst (λ x. IsEdgeOf program labels grown x) (contains_one (edge r Heap r) e self)
-                (node (root labels) (RetVal pc), node (root labels) (RetVal pc), to, to, next_input s (node (root labels) (RetVal pc)) (node (root labels) (RetVal pc)) cursor cursor) ];
+                (node (root labels) (RetVal pc), node (root labels) (RetVal pc), to, to, next_input s (node (root labels) (RetVal pc)) (node (root labels) (RetVal pc)) cursor cursor)
+          ];
           each_edge = each_edge-more program labels pc grown all cover nodes edges stay in_old built.each_edge;
           results_right = λ x is. elim (Contains-push_cases results (record { source = s; node = r }) x is) [
-              inl before ↦ (let was = built.results_right x before in (was.0, stay x.node was.0 was.1, was.2))
-            | inr same ↦ subst (λ (y : SourceResult). (n : Node) × (node_in grown y.node ≡ Some n) × UsesCursor program labels y.source n) same (node (root labels) (RetVal pc), to, cursor) ];
+            | inl before ↦ (let was = built.results_right x before in (was.0, stay x.node was.0 was.1, was.2))
+            | inr same ↦ subst (λ (y : SourceResult). (n : Node) × (node_in grown y.node ≡ Some n) × UsesCursor program labels y.source n) same (node (root labels) (RetVal pc), to, cursor)
+          ];
           each_result = λ named n mine low. elim (cases_eq (position n.kind) (pc + 1)) [
-              inl here ↦
+            | inl here ↦
                 let is = cursor_at program labels pc named n mine here in
                 let same = (cursor_source named (subst (λ x. UsesCursor program labels named x) is mine)).0 in
                 (r, to ∙ ap (λ x. Some x) (sym is), subst (λ o. Contains (results ++ (record { source = s; node = r }) ∷ []) (record { source = o; node = r })) (sym same) (Contains-push results (record { source = s; node = r })))
-            | inr other ↦ (let was = built.each_result named n mine (omega arith) in (was.0, stay was.0 n was.1, Contains-append_left results ((record { source = s; node = r }) ∷ []) (record { source = named; node = was.0 }) was.2)) ]
+            | inr other ↦ (let was = built.each_result named n mine (omega arith) in (was.0, stay was.0 n was.1, Contains-append_left results ((record { source = s; node = r }) ∷ []) (record { source = named; node = was.0 }) was.2))
+          ];
         }
 
   module _ (counts : arguments_at program labels.entry pc ≡ Some 1) (sink : is_sink (label_of labels s) ≡ true) (defined : IsDefined program labels (node_at program labels.entry pc) nodes definitions) where
@@ -246,59 +259,72 @@ module _ (program : Program) (labels : Labels) (code : Code) (typed : IsTypedCod
         let in_old = λ (e : Edge) (is : Contains edges e). in_3 e (Contains-append_left (edges ++ c) u e (Contains-append_left edges c e is)) in
         let no_cursor = λ (named : ℕ) (mine : UsesCursor program labels named (node (root labels) (RetVal pc))). source_no_sink (label_of labels s) (cursor_source named mine).1 sink in
         let only : (a : ℕ) (v : Place) → ArgumentPlace program labels.entry pc a v → (a ≡ 0) × (v ≡ Stack (h - 1)) = λ a v is.
-            let p = argument_at program labels.entry pc a h 1 v is has counts in
-            let z : a ≡ 0 = omega (arith, p.0) in
-            let same : h - 1 + a ≡ h - 1 = omega arith in
-            (z, p.1 ∙ ap (λ x. Stack x) same) in
+        let p = argument_at program labels.entry pc a h 1 v is has counts in
+        let z : a ≡ 0 = omega (arith, p.0) in
+        let same : h - 1 + a ≡ h - 1 = omega arith in
+        (z, p.1 ∙ ap (λ x. Stack x) same) in
         let cover : CoversEdges program labels pc grown all = record {
           uses = λ x v flows reach reads. absurd (no_read v reads);
           passes = λ x v a flows reach is.
-            let one_place = only a v is in
-            let was = defined.each v x flows (subst (λ n. Reaches program labels.entry v x n) (sym call) reach) in
-            subst (λ b. HasEdge grown all (node (root labels) x) Data (node (root labels) (Arg pc b))) (sym one_place.0)
+              let one_place = only a v is in
+              let was = defined.each v x flows (subst (λ n. Reaches program labels.entry v x n) (sym call) reach) in
+              subst (λ b. HasEdge grown all (node (root labels) x) Data (node (root labels) (Arg pc b))) (sym one_place.0)
               (was.0, i, stay was.0 (node (root labels) x) was.2, arg, in_3 (edge was.0 Data i) (Contains-append_right (edges ++ c) u (edge was.0 Data i) (use_there i was.0 (definition_of definitions (Stack (h - 1))) (ap (definition_of definitions) (sym one_place.1) ∙ was.1))));
           shows = λ v flows is_shown is. (i, j, arg, at, Contains-append_left (edges ++ c ++ u ++ f) d (edge i Data j) (Contains-append_right (edges ++ c ++ u) f (edge i Data j) (contains_first (edge i Data j) [])));
           controls = λ n flows here. elim (kind_at_call program labels code typed pc call n (flow_kind program labels code typed n flows) here) [
-              inl is ↦ subst (λ x. HasEdge grown all (node (root labels) Entry) Control (node (root labels) x)) (sym is)
+            | inl is ↦ subst (λ x. HasEdge grown all (node (root labels) Entry) Control (node (root labels) x)) (sym is)
                 (0, j, first, at, in_3 (edge 0 Control j) (Contains-append_left (edges ++ c) u (edge 0 Control j) (Contains-append_right edges c (edge 0 Control j) (contains_first (edge 0 Control j) []))))
             | inr rest ↦ elim rest [
-                inl is ↦ subst (λ x. HasEdge grown all (node (root labels) Entry) Control (node (root labels) x)) (sym is)
+              | inl is ↦ subst (λ x. HasEdge grown all (node (root labels) Entry) Control (node (root labels) x)) (sym is)
                   (0, r, first, to, Contains-append_right (edges ++ c ++ u ++ f) d (edge 0 Control r) (contains_first (edge 0 Control r) []))
-              | inr other ↦ absurd (no_argument_flow other.0 n flows other.2) ] ];
+              | inr other ↦ absurd (no_argument_flow other.0 n flows other.2)
+            ]
+          ];
           ends = λ t flows ret. absurd (no_return t ret);
-          inputs = λ named y mine other low. absurd (no_cursor named mine)
+          inputs = λ named y mine other low. absurd (no_cursor named mine);
         } in
         record {
           nodes_right = nodes-weaker program labels (3 * pc + 6 + 1) (4 + 3 * (pc + 1)) grown
-            (nodes-push program labels (3 * pc + 5 + 1) two_more result
+              (nodes-push program labels (3 * pc + 5 + 1) two_more result
               (nodes-push program labels (3 * pc + 4 + 1) one_more argument
-                (nodes-push program labels (4 + 3 * pc) nodes name built.nodes_right (of_flow (root labels) (Call pc) at_entry flow) (omega arith) (sym callee))
-                (argument_node (root labels) pc 0 (Stack (h - 1)) at_entry flow place) (omega arith) (sym callee))
+              (nodes-push program labels (4 + 3 * pc) nodes name built.nodes_right (of_flow (root labels) (Call pc) at_entry flow) (omega arith) (sym callee))
+              (argument_node (root labels) pc 0 (Stack (h - 1)) at_entry flow place) (omega arith) (sym callee))
               (of_flow (root labels) (RetVal pc) at_entry returns) (omega arith) (sym callee)) (omega arith);
           few = (let l3 = length_push two_more result in let g = built.few in omega arith);
           each_node = each_node-more program labels code typed pc nodes grown stay built.each_node (λ x is here. elim (kind_at_call program labels code typed pc call x is here) [
-              inl same ↦ (j, at ∙ ap (λ y. Some (node (root labels) y)) (sym same))
+            | inl same ↦ (j, at ∙ ap (λ y. Some (node (root labels) y)) (sym same))
             | inr rest ↦ elim rest [
-                inl same ↦ (r, to ∙ ap (λ y. Some (node (root labels) y)) (sym same))
-              | inr other ↦ (i, arg ∙ ap (λ a. Some (node (root labels) (Arg pc a))) (sym (only other.0 other.1 other.3).0) ∙ ap (λ y. Some (node (root labels) y)) (sym other.2)) ] ]);
+              | inl same ↦ (r, to ∙ ap (λ y. Some (node (root labels) y)) (sym same))
+              | inr other ↦ (i, arg ∙ ap (λ a. Some (node (root labels) (Arg pc a))) (sym (only other.0 other.1 other.3).0) ∙ ap (λ y. Some (node (root labels) y)) (sym other.2))
+            ]
+          ]);
           first = first;
           third = stay 2 (node (root labels) Kind) built.third;
           only_edges = λ e is. elim (Contains-append_cases (edges ++ c ++ u ++ f) d e is) [
-              inl x ↦ elim (Contains-append_cases (edges ++ c ++ u) f e x) [
-                  inl y ↦ elim (Contains-append_cases (edges ++ c) u e y) [
-                      inl z ↦ elim (Contains-append_cases edges c e z) [
-                          inl was ↦ edge_of-more program labels nodes grown e stay (built.only_edges e was)
-                        | inr control ↦ control_right program labels grown j (Call pc) flow (λ w. cc) (λ w. cc) first at e control ]
-                    | inr used_here ↦ use_right program labels grown i (definition_of definitions (Stack (h - 1))) (λ x def.
-                        let was = defined.right (Stack (h - 1)) x def in
-                        (node (root labels) was.0, node (root labels) (Arg pc 0), stay x (node (root labels) was.0) was.3, arg,
-                          passed (root labels) was.0 pc 0 (Stack (h - 1)) at_entry was.1 (subst (λ n. Reaches program labels.entry (Stack (h - 1)) was.0 n) call was.2) place)) e used_here ]
-                | inr shows_it ↦ subst (λ x. IsEdgeOf program labels grown x) (contains_one (edge i Data j) e shows_it)
-                    (node (root labels) (Arg pc 0), node (root labels) (Call pc), arg, at, shown (root labels) pc (Stack (h - 1)) at_entry flow (ap is_sink (label_at_callee program labels labels.entry pc s callee) ∙ sink) place) ]
-            | inr control ↦ control_right program labels grown r (RetVal pc) returns (λ w. cc) (λ w. cc) first to e control ];
+            | inl x ↦ elim (Contains-append_cases (edges ++ c ++ u) f e x) [
+              | inl y ↦ elim (Contains-append_cases (edges ++ c) u e y) [
+                | inl z ↦ elim (Contains-append_cases edges c e z) [
+                  | inl was ↦ edge_of-more program labels nodes grown e stay (built.only_edges e was)
+                  | inr control ↦ control_right program labels grown j (Call pc) flow (λ w. cc) (λ w. cc) first at e control
+                ]
+                | inr used_here ↦ use_right program labels grown i (definition_of definitions (Stack (h - 1))) (λ x def.
+                    let was = defined.right (Stack (h - 1)) x def in (
+                      node (root labels) was.0,
+                      node (root labels) (Arg pc 0),
+                      stay x (node (root labels) was.0) was.3,
+                      arg,
+                      passed (root labels) was.0 pc 0 (Stack (h - 1)) at_entry was.1 (subst (λ n. Reaches program labels.entry (Stack (h - 1)) was.0 n) call was.2) place,
+                    )) e used_here
+              ]
+              | inr shows_it ↦ subst (λ x. IsEdgeOf program labels grown x) (contains_one (edge i Data j) e shows_it)
+                  (node (root labels) (Arg pc 0), node (root labels) (Call pc), arg, at, shown (root labels) pc (Stack (h - 1)) at_entry flow (ap is_sink (label_at_callee program labels labels.entry pc s callee) ∙ sink) place)
+            ]
+            | inr control ↦ control_right program labels grown r (RetVal pc) returns (λ w. cc) (λ w. cc) first to e control
+          ];
           each_edge = each_edge-more program labels pc grown all cover nodes edges stay in_old built.each_edge;
           results_right = λ x is. (let was = built.results_right x is in (was.0, stay x.node was.0 was.1, was.2));
           each_result = λ named n mine low. elim (cases_eq (position n.kind) (pc + 1)) [
-              inl here ↦ absurd (no_cursor named (subst (λ x. UsesCursor program labels named x) (cursor_at program labels pc named n mine here) mine))
-            | inr other ↦ (let was = built.each_result named n mine (omega arith) in (was.0, stay was.0 n was.1, was.2)) ]
+            | inl here ↦ absurd (no_cursor named (subst (λ x. UsesCursor program labels named x) (cursor_at program labels pc named n mine here) mine))
+            | inr other ↦ (let was = built.each_result named n mine (omega arith) in (was.0, stay was.0 n was.1, was.2))
+          ];
         }

@@ -1,20 +1,20 @@
 -- Plain code is one line: typing paths arrive at its pcs in order, and each flow node but Entry has one predecessor.
-use Rattle.std.proofs.Common.{◌≡◌, ◌≢◌, ◌⊎◌, inl, inr, ℕ, ◌+◌, ◌<◌, ◌≤◌, Bool, true, false, cond, Option, Some, None, IsSome, is_some, refl, sym, ap, subst, ◌∙◌, arith}
+use Rattle.std.proofs.Common.{◌≡◌, ◌⊎◌, inl, inr, ℕ, ◌<◌, ◌≤◌, Bool, true, false, cond, Option, Some, None, IsSome, refl, sym, ap, subst, ◌∙◌, arith}
 use Rattle.std.specs.Prelude.{option_and_then}
-use Rattle.std.proofs.lemmas.Bool.{cases_order, cases_lt, true≢false, false≢true}
+use Rattle.std.proofs.lemmas.Bool.{cases_lt, false≢true}
 use Rattle.std.proofs.lemmas.Option.{none-some, same_Some, some_pair_parts}
 use Rattle.class_read.specs.declared.jo_insn.Operation.{Operation}
 use Rattle.class_read.specs.declared.jo_insn.Operation.TheVariants.{Constant, Load, Store, Add, Subtract, InvokeStatic, Return, Other}
 use Rattle.jo_prog.specs.declared.program.Program.{Program}
 use Rattle.jo_prog.specs.declared.program.Code.{Code}
-use Rattle.jo_prog.specs.Program.{code_at, operation_at, callee_at}
-use Rattle.jo_prog.specs.Typing.{Shape, After, shape_at_start, goes_to, leads_on, shape_after, typed_by, typed_at, Arrives, at_start, by_step, IsTypedCode}
+use Rattle.jo_prog.specs.Program.{operation_at, callee_at}
+use Rattle.jo_prog.specs.Typing.{Shape, After, shape_at_start, leads_on, shape_after, typed_by, typed_at, Arrives, at_start, by_step, IsTypedCode}
 use Rattle.jo_prog.proofs.Decoding.{operation_at-next}
 use Rattle.jo_prog.proofs.TypingPaths.{typed_by-next}
 use Rattle.flow_graph.specs.declared.flow.Place.{Place}
 use Rattle.flow_graph.specs.declared.flow.NodeKind.{NodeKind}
-use Rattle.flow_graph.specs.declared.flow.NodeKind.TheVariants.{Entry, Exit, Instr, Call, RetVal, RetKind, Throw, Catch, Poll, XPoll, Arg, Param, Kind, Value, Thrown}
-use Rattle.flow_graph.specs.Flow.{node_of, node_at, falls_through, FlowEdge, begins, skips, falls, leaves, calls, arrives, Path, stays, steps, IsFlowNode, Writes, by_instr, by_result}
+use Rattle.flow_graph.specs.declared.flow.NodeKind.TheVariants.{Entry, Exit, Instr, Call, RetVal}
+use Rattle.flow_graph.specs.Flow.{node_of, node_at, falls_through, FlowEdge, begins, skips, falls, leaves, calls, arrives, Path, stays, steps, IsFlowNode}
 use Rattle.flow_graph.specs.Dependence.{Reaches, one, more}
 use Rattle.flow_graph.specs.Chains.{pc_of}
 
@@ -177,35 +177,43 @@ module _ (program : Program) (m : ℕ) (code : Code) (typed : IsTypedCode progra
       let step = typed_by-next program code (callee_at program m q) (operation_at program m q) s after r e on in
       let rises : q < r = operation_at-next program m q r step.0 step.1 in
       elim (between q s arr) [
-        inl up_to ↦ elim (cases_lt q pc) [
-          inl below ↦
-            let h = behind q s arr below in
-            let same = (some_pair_parts step.0 h.0 r h.1 (sym step.1 ∙ h.2)).1 in
-            inl (omega (arith, h.4))
-        | inr past ↦
-            let here : q ≡ pc = omega arith in
-            let at : operation_at program m q ≡ Some (operation, next) = ap (operation_at program m) here ∙ found in
-            let same = some_pair_parts step.0 operation r next (sym step.1 ∙ at) in
-            inr ( omega (arith, same.1)
-                , (λ is. return_ends program code (callee_at program m q) (operation_at program m q) s after next r (at ∙ ap (λ o. Some (o, next)) is) e on) ) ]
-      | inr beyond ↦ inr (omega (arith, beyond.0), beyond.1) ]
+        | inl up_to ↦ elim (cases_lt q pc) [
+          | inl below ↦
+              let h = behind q s arr below in
+              let same = (some_pair_parts step.0 h.0 r h.1 (sym step.1 ∙ h.2)).1 in
+              inl (omega (arith, h.4))
+          | inr past ↦
+              let here : q ≡ pc = omega arith in
+              let at : operation_at program m q ≡ Some (operation, next) = ap (operation_at program m) here ∙ found in
+              let same = some_pair_parts step.0 operation r next (sym step.1 ∙ at) in
+              inr (
+                omega (arith, same.1),
+                (λ is. return_ends program code (callee_at program m q) (operation_at program m q) s after next r (at ∙ ap (λ o. Some (o, next)) is) e on),
+              )
+        ]
+        | inr beyond ↦ inr (omega (arith, beyond.0), beyond.1)
+      ]
 
   pub behind_next : (operation ≡ Return → ⊥) → IsBehind program m code next
   behind_next other p s arr below = elim (between p s arr) [
-      inl up_to ↦ elim (cases_lt p pc) [
-          inl before ↦ let h = behind p s arr before in let rises = up in (h.0, h.1, h.2, h.3, omega (arith, h.4))
-        | inr past ↦ let here : p ≡ pc = omega arith in (operation, next, ap (operation_at program m) here ∙ found, other, omega arith) ]
-    | inr beyond ↦ absurd (omega (arith, beyond.0)) ]
+    | inl up_to ↦ elim (cases_lt p pc) [
+      | inl before ↦ let h = behind p s arr before in let rises = up in (h.0, h.1, h.2, h.3, omega (arith, h.4))
+      | inr past ↦ let here : p ≡ pc = omega arith in (operation, next, ap (operation_at program m) here ∙ found, other, omega arith)
+    ]
+    | inr beyond ↦ absurd (omega (arith, beyond.0))
+  ]
 
   -- a flow node on the line from which control goes on to the next pc is the one at this pc
   here : (p : ℕ) (s : Shape) (o : Operation) (n : ℕ) → Arrives program m code p s → operation_at program m p ≡ Some (o, n) → n ≡ next → p ≡ pc
   here p s o n arr at same =
       let rises = operation_at-next program m p n o at in
       elim (between p s arr) [
-          inl up_to ↦ elim (cases_lt p pc) [
-              inl before ↦ let h = behind p s arr before in let is = (some_pair_parts o h.0 n h.1 (sym at ∙ h.2)).1 in let rises' = up in absurd (omega (arith, h.4))
-            | inr past ↦ omega arith ]
-        | inr beyond ↦ absurd (omega (arith, beyond.0)) ]
+        | inl up_to ↦ elim (cases_lt p pc) [
+          | inl before ↦ let h = behind p s arr before in let is = (some_pair_parts o h.0 n h.1 (sym at ∙ h.2)).1 in let rises' = up in absurd (omega (arith, h.4))
+          | inr past ↦ omega arith
+        ]
+        | inr beyond ↦ absurd (omega (arith, beyond.0))
+      ]
 
   predecessor_by : (x n : NodeKind) → FlowEdge program m x n → LineAt program m code x → n ≡ node_at program m next → x ≡ out_of (node_at program m pc)
   predecessor_by x n (begins y e) line is = let rises = up in absurd (omega (arith, node_at_one program m 0 next (e ∙ is)))

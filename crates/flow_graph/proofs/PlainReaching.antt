@@ -1,23 +1,23 @@
 -- Reaching definitions, control and the nodes of the dependence graph in plain code.
-use Rattle.std.proofs.Common.{◌≡◌, ◌≢◌, ◌⊎◌, inl, inr, ℕ, ◌+◌, ◌<◌, ◌≤◌, Bool, true, false, cond, if◌then◌else◌, List, [], Option, Some, None, refl, sym, ap, subst, ◌∙◌, arith}
-use Rattle.std.proofs.lemmas.Bool.{true≢false, false≢true, cond-true}
+use Rattle.std.proofs.Common.{◌≡◌, ◌≢◌, ◌⊎◌, inl, inr, ℕ, ◌+◌, ◌≤◌, cond, [], Option, Some, None, refl, sym, ap, subst, ◌∙◌, arith}
+use Rattle.std.proofs.lemmas.Bool.{false≢true, cond-true}
 use Rattle.class_read.specs.declared.jo_insn.Operation.{Operation}
 use Rattle.class_read.specs.declared.jo_insn.Operation.TheVariants.{Constant, Load, Store, Add, Subtract, InvokeStatic, Return, Other}
 use Rattle.jo_prog.specs.declared.program.Program.{Program}
 use Rattle.jo_prog.specs.declared.program.Code.{Code}
 use Rattle.jo_prog.specs.declared.labels.Labels.{Labels}
-use Rattle.jo_prog.specs.Program.{operation_at, callee_at}
+use Rattle.jo_prog.specs.Program.{operation_at}
 use Rattle.jo_prog.specs.Typing.{Shape, Arrives, IsTypedCode}
 use Rattle.jo_prog.proofs.Decoding.{operation_at-next}
 use Rattle.flow_graph.specs.declared.flow.Place.{Place}
 use Rattle.flow_graph.specs.declared.flow.NodeKind.{NodeKind}
 use Rattle.flow_graph.specs.declared.flow.NodeKind.TheVariants.{Entry, Exit, Instr, Call, RetVal, RetKind, Throw, Catch, Poll, XPoll, Arg, Param, Kind, Value, Thrown}
 use Rattle.flow_graph.specs.declared.dep_nodes.EdgeKind.{EdgeKind}
-use Rattle.flow_graph.specs.Flow.{node_of, node_at, falls_through, calls_native, FlowEdge, begins, skips, falls, leaves, calls, arrives, Path, stays, steps, IsFlowNode, Writes, ArgumentPlace, by_instr, by_result}
+use Rattle.flow_graph.specs.Flow.{node_of, node_at, falls_through, FlowEdge, begins, skips, falls, leaves, calls, arrives, Path, stays, steps, IsFlowNode, Writes, ArgumentPlace}
 use Rattle.flow_graph.specs.Dependence.{Reaches, one, more, Controls}
-use Rattle.flow_graph.specs.Graph.{Instance, Node, node, IsReached, at_entry, IsNode, of_flow, of_argument, of_kind, of_thrown, UsesCursor, at_result, DependenceEdge, used, passed, shown, controlled, ended, next_input}
+use Rattle.flow_graph.specs.Graph.{Instance, Node, node, at_entry, IsNode, of_flow, of_argument, of_kind, of_thrown, UsesCursor, at_result, DependenceEdge, used, passed, shown, controlled, ended, next_input}
 use Rattle.flow_graph.specs.Chains.{pc_of}
-use Rattle.flow_graph.proofs.PlainLine.{node_at_pc, node_at_step, out_of, is_step, LineAt, flow_line, flow_on, reaches_flow, IsBehind, between, predecessor}
+use Rattle.flow_graph.proofs.PlainLine.{node_at_step, out_of, LineAt, flow_line, flow_on, reaches_flow, IsBehind, predecessor}
 
 -- ---- places on the line
 
@@ -63,8 +63,9 @@ pub reaches_up : (program : Program) (m : ℕ) (v : Place) (d n : NodeKind) → 
 reaches_up program m v d n (one y e w) = flow_up program m d y e
 reaches_up program m v d n (more x y r not e) =
     elim (reaches_up program m v d x r) [
-        inl is ↦ absurd (no_way_out program m y (subst (λ k. FlowEdge program m k y) is e))
-      | inr first ↦ elim (flow_up program m x y e) [ inl is ↦ inl is | inr second ↦ inr (omega arith) ] ]
+      | inl is ↦ absurd (no_way_out program m y (subst (λ k. FlowEdge program m k y) is e))
+      | inr first ↦ elim (flow_up program m x y e) [ inl is ↦ inl is | inr second ↦ inr (omega arith) ]
+    ]
 
 -- ---- definitions that reach a result are those that reach its call
 
@@ -142,8 +143,9 @@ edge_successor program m b x (arrives p next k y found native e) = inr (sym e �
 pub controls_entry : (program : Program) (m : ℕ) (b n : NodeKind) → Controls program m b n → b ≡ Entry
 controls_entry program m b n c =
     elim (edge_successor program m b c.one c.to_one) [
-        inl is ↦ is
-      | inr first ↦ elim (edge_successor program m b c.other c.to_other) [ inl is ↦ is | inr second ↦ absurd (c.differ (first ∙ sym second)) ] ]
+      | inl is ↦ is
+      | inr first ↦ elim (edge_successor program m b c.other c.to_other) [ inl is ↦ is | inr second ↦ absurd (c.differ (first ∙ sym second)) ]
+    ]
 
 entry_edge : (program : Program) (m : ℕ) (a b : NodeKind) → FlowEdge program m a b → a ≡ Entry → (b ≡ node_at program m 0) ⊎ (b ≡ Exit)
 entry_edge program m a b (begins y e) is = inl (sym e)
@@ -161,27 +163,30 @@ from_entry : (program : Program) (m : ℕ) (a b : NodeKind) → Path program m a
 from_entry program m a b (stays n) is = inl is
 from_entry program m a b (steps x y z e path) is =
     elim (entry_edge program m x y e is) [
-        inl begun ↦ inr (inr (subst (λ k. Path program m k z) begun path))
-      | inr out ↦ inr (inl (exit_path program m y z path out)) ]
+      | inl begun ↦ inr (inr (subst (λ k. Path program m k z) begun path))
+      | inr out ↦ inr (inl (exit_path program m y z path out))
+    ]
 
 -- Entry controls each flow node but itself and Exit
 pub entry_controls : (program : Program) (m : ℕ) (n : NodeKind) → IsFlowNode program m n → n ≢ Entry → n ≢ Exit → Controls program m Entry n
 entry_controls program m n flow no_entry no_exit =
     elim (from_entry program m Entry n flow refl) [
-        inl is ↦ absurd (no_entry is)
+      | inl is ↦ absurd (no_entry is)
       | inr rest ↦ elim rest [
-          inl is ↦ absurd (no_exit is)
+        | inl is ↦ absurd (no_exit is)
         | inr path ↦ record {
-            one = node_at program m 0;
-            other = Exit;
-            to_one = begins (node_at program m 0) refl;
-            to_other = skips;
-            differ = λ is. false≢true (node_at_step program m 0 Exit is);
-            first = node_at program m 0;
-            leads = begins (node_at program m 0) refl;
-            path = path;
-            no_exit = no_exit
-          } ] ]
+          one = node_at program m 0;
+          other = Exit;
+          to_one = begins (node_at program m 0) refl;
+          to_other = skips;
+          differ = λ is. false≢true (node_at_step program m 0 Exit is);
+          first = node_at program m 0;
+          leads = begins (node_at program m 0) refl;
+          path = path;
+          no_exit = no_exit;
+        }
+      ]
+    ]
 
 -- ---- nodes
 

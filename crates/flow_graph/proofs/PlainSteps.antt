@@ -1,7 +1,7 @@
 -- What one more instruction adds to the graph and to the table of definitions.
-use Rattle.std.proofs.Common.{◌≡◌, ◌≢◌, ◌⊎◌, inl, inr, ℕ, zero, suc, ◌+◌, ◌*◌, ◌-◌, ◌<◌, ◌≤◌, Bool, true, false, List, [], ◌∷◌, ◌++◌, length, Option, Some, None, Contains, slice_get, refl, sym, ap, subst, ◌∙◌, arith}
-use Rattle.std.proofs.lemmas.Bool.{cases_eq, false≢true, true≢false}
-use Rattle.std.proofs.lemmas.Option.{none-some, same_Some, some_pair_parts}
+use Rattle.std.proofs.Common.{◌≡◌, ◌≢◌, ◌⊎◌, inl, inr, ℕ, ◌+◌, ◌*◌, ◌≤◌, true, List, [], ◌∷◌, ◌++◌, length, Option, Some, None, Contains, refl, sym, ap, subst, ◌∙◌, arith}
+use Rattle.std.proofs.lemmas.Bool.{cases_eq}
+use Rattle.std.proofs.lemmas.Option.{same_Some, some_pair_parts}
 use Rattle.std.proofs.lemmas.List.{length_push}
 use Rattle.std.proofs.lemmas.List.Elements.{Contains-append_left, Contains-append_right, Contains-append_cases}
 use Rattle.class_read.specs.declared.jo_insn.Operation.{Operation}
@@ -11,7 +11,7 @@ use Rattle.jo_prog.specs.declared.program.Code.{Code}
 use Rattle.jo_prog.specs.declared.labels.Labels.{Labels}
 use Rattle.jo_prog.specs.Labels.{label_of}
 use Rattle.jo_prog.specs.Program.{operation_at, callee_at}
-use Rattle.jo_prog.specs.Typing.{Shape, Arrives, IsTypedCode, HasHeight}
+use Rattle.jo_prog.specs.Typing.{IsTypedCode, HasHeight}
 use Rattle.jo_prog.proofs.TypingPaths.{heights_same}
 use Rattle.flow_graph.specs.declared.flow.Place.{Place}
 use Rattle.flow_graph.specs.declared.flow.Place.TheVariants.{Local, Stack, Pending}
@@ -26,12 +26,12 @@ use Rattle.flow_graph.specs.declared.sdg.SourceResult.{SourceResult}
 use Rattle.flow_graph.specs.Flow.{node_at, FlowEdge, stays, IsFlowNode, reads_of, writes_of, Reads, Writes, by_instr, by_result, ArgumentPlace}
 use Rattle.flow_graph.specs.Dependence.{Reaches, one, Controls}
 use Rattle.flow_graph.specs.Chains.{pc_of}
-use Rattle.flow_graph.specs.Graph.{Instance, Node, node, IsReached, at_entry, IsNode, of_flow, of_argument, label_at, is_source, is_sink, UsesCursor, at_result, DependenceEdge, used, passed, shown, controlled, ended, next_input}
-use Rattle.flow_graph.specs.GraphData.{edge, node_named}
+use Rattle.flow_graph.specs.Graph.{Node, node, at_entry, IsNode, of_flow, label_at, is_source, is_sink, UsesCursor, at_result, DependenceEdge, used, passed, shown, controlled, ended, next_input}
+use Rattle.flow_graph.specs.GraphData.{edge}
 use Rattle.flow_graph.specs.Building.{definition_of, AreWritten, name_of, use_edges, uses_edges, out_edges, control_edges}
-use Rattle.flow_graph.proofs.PlainLine.{out_of, LineAt, IsBehind, flow_line, reaches_flow}
+use Rattle.flow_graph.proofs.PlainLine.{out_of, IsBehind, flow_line, reaches_flow}
 use Rattle.flow_graph.proofs.PlainReaching.{position, reaches_up, reaches_next, controls_entry, entry_controls, controlled_flow, root, IsKindOf, node_kind}
-use Rattle.flow_graph.proofs.NodeLists.{contains_one, contains_none, contains_first, node_in, NodesStay, stay-push, node-push, rank, AreNodes, nodes-push, nodes-weaker, HasEdge, IsEdgeOf, has_edge-more, edge_of-more}
+use Rattle.flow_graph.proofs.NodeLists.{contains_one, contains_none, contains_first, node_in, NodesStay, stay-push, node-push, AreNodes, nodes-push, nodes-weaker, HasEdge, IsEdgeOf, has_edge-more, edge_of-more}
 
 -- ---- what stands when the walk has come to a bound
 
@@ -70,27 +70,31 @@ module _ (program : Program) (labels : Labels) (pc : ℕ) (nodes : List NodeName
       → (position d ≡ pc + 1) ⊎ (position n ≡ pc + 1) → HasEdge nodes edges (node (root labels) d) Data (node (root labels) n)
   used_by d n v flow reaches (by_instr p next height operation w found has among) low high here =
       elim (cases_eq p pc) [
-          inl same ↦ subst (λ q. HasEdge nodes edges (node (root labels) d) Data (node (root labels) (Instr q))) (sym same)
+        | inl same ↦ subst (λ q. HasEdge nodes edges (node (root labels) d) Data (node (root labels) (Instr q))) (sym same)
             (cover.uses d w flow (subst (λ q. Reaches program labels.entry w d (Instr q)) same reaches) (subst (λ q. Reads program labels.entry (Instr q) w) same (by_instr p next height operation w found has among)))
         | inr other ↦ elim here [
-            inl first ↦ elim (reaches_up program labels.entry w d (Instr p) reaches) [ inl is ↦ (let no : ⊥ = cc in absurd no) | inr up ↦ absurd (other (omega arith)) ]
-          | inr second ↦ absurd (other (omega arith)) ] ]
+          | inl first ↦ elim (reaches_up program labels.entry w d (Instr p) reaches) [ inl is ↦ (let no : ⊥ = cc in absurd no) | inr up ↦ absurd (other (omega arith)) ]
+          | inr second ↦ absurd (other (omega arith))
+        ]
+      ]
 
   passed_by : (d : NodeKind) (p k : ℕ) (v : Place) → IsFlowNode program labels.entry d → Reaches program labels.entry v d (Call p) → ArgumentPlace program labels.entry p k v → position d ≤ pc + 1 → p + 1 ≤ pc + 1
       → (position d ≡ pc + 1) ⊎ (p + 1 ≡ pc + 1) → HasEdge nodes edges (node (root labels) d) Data (node (root labels) (Arg p k))
   passed_by d p k v flow reaches place low high here =
       elim (cases_eq p pc) [
-          inl same ↦ subst (λ q. HasEdge nodes edges (node (root labels) d) Data (node (root labels) (Arg q k))) (sym same)
+        | inl same ↦ subst (λ q. HasEdge nodes edges (node (root labels) d) Data (node (root labels) (Arg q k))) (sym same)
             (cover.passes d v k flow (subst (λ q. Reaches program labels.entry v d (Call q)) same reaches) (subst (λ q. ArgumentPlace program labels.entry q k v) same place))
         | inr other ↦ elim here [
-            inl first ↦ elim (reaches_up program labels.entry v d (Call p) reaches) [ inl is ↦ (let no : ⊥ = cc in absurd no) | inr up ↦ absurd (other (omega arith)) ]
-          | inr second ↦ absurd (other (omega arith)) ] ]
+          | inl first ↦ elim (reaches_up program labels.entry v d (Call p) reaches) [ inl is ↦ (let no : ⊥ = cc in absurd no) | inr up ↦ absurd (other (omega arith)) ]
+          | inr second ↦ absurd (other (omega arith))
+        ]
+      ]
 
   shown_by : (p : ℕ) (v : Place) → p ≡ pc → IsFlowNode program labels.entry (Call p) → is_sink (label_at program labels labels.entry p) ≡ true → ArgumentPlace program labels.entry p 0 v
       → HasEdge nodes edges (node (root labels) (Arg p 0)) Data (node (root labels) (Call p))
   shown_by p v same flow sink place =
       subst (λ q. HasEdge nodes edges (node (root labels) (Arg q 0)) Data (node (root labels) (Call q))) (sym same)
-        (cover.shows v (subst (λ q. IsFlowNode program labels.entry (Call q)) same flow) (subst (λ q. is_sink (label_at program labels labels.entry q) ≡ true) same sink) (subst (λ q. ArgumentPlace program labels.entry q 0 v) same place))
+      (cover.shows v (subst (λ q. IsFlowNode program labels.entry (Call q)) same flow) (subst (λ q. is_sink (label_at program labels labels.entry q) ≡ true) same sink) (subst (λ q. ArgumentPlace program labels.entry q 0 v) same place))
 
   controlled_by : (b n : NodeKind) → IsFlowNode program labels.entry b → Controls program labels.entry b n → (position b ≡ pc + 1) ⊎ (position n ≡ pc + 1)
       → HasEdge nodes edges (node (root labels) b) Control (node (root labels) n)
@@ -98,13 +102,14 @@ module _ (program : Program) (labels : Labels) (pc : ℕ) (nodes : List NodeName
       let is = controls_entry program labels.entry b n controls in
       let low : position b ≡ 0 = ap position is in
       elim here [
-          inl first ↦ absurd (omega arith)
-        | inr second ↦ subst (λ k. HasEdge nodes edges (node (root labels) k) Control (node (root labels) n)) (sym is) (cover.controls n (controlled_flow program labels.entry b n flow controls) second) ]
+        | inl first ↦ absurd (omega arith)
+        | inr second ↦ subst (λ k. HasEdge nodes edges (node (root labels) k) Control (node (root labels) n)) (sym is) (cover.controls n (controlled_flow program labels.entry b n flow controls) second)
+      ]
 
   ended_by : (p next : ℕ) → p ≡ pc → IsFlowNode program labels.entry (Instr p) → operation_at program labels.entry p ≡ Some (Return, next) → HasEdge nodes edges (node (root labels) (Instr p)) Out (node (root labels) Kind)
   ended_by p next same flow found =
       subst (λ q. HasEdge nodes edges (node (root labels) (Instr q)) Out (node (root labels) Kind)) (sym same)
-        (cover.ends next (subst (λ q. IsFlowNode program labels.entry (Instr q)) same flow) (subst (λ q. operation_at program labels.entry q ≡ Some (Return, next)) same found))
+      (cover.ends next (subst (λ q. IsFlowNode program labels.entry (Instr q)) same flow) (subst (λ q. operation_at program labels.entry q ≡ Some (Return, next)) same found))
 
   pub cursor_here : (source : ℕ) (x : Node) → UsesCursor program labels source x → position x.kind ≡ pc + 1 → x ≡ node (root labels) (RetVal pc)
   cursor_here source x (at_result i p s at_entry flow callee is) here = ap (λ q. node (root labels) (RetVal q)) (let same : p ≡ pc = omega arith in same)
@@ -116,12 +121,13 @@ module _ (program : Program) (labels : Labels) (pc : ℕ) (nodes : List NodeName
   edge_here a b kind (controlled i d n at_entry flow controls) low high here = controlled_by d n flow controls here
   edge_here a b kind (ended i p next at_entry flow found) low high here = ended_by p next (elim here [ inl is ↦ omega arith | inr is ↦ absurd (omega arith) ]) flow found
   edge_here a b kind (next_input source x y first second) low high here = elim here [
-      inl is ↦
+    | inl is ↦
         let same = cursor_here source x first is in
         subst (λ n. HasEdge nodes edges n Heap y) (sym same) (cover.inputs source y (subst (λ n. UsesCursor program labels source n) same first) second high).0
     | inr is ↦
         let same = cursor_here source y second is in
-        subst (λ n. HasEdge nodes edges x Heap n) (sym same) (cover.inputs source x (subst (λ n. UsesCursor program labels source n) same second) first low).1 ]
+        subst (λ n. HasEdge nodes edges x Heap n) (sym same) (cover.inputs source x (subst (λ n. UsesCursor program labels source n) same second) first low).1
+  ]
 
   -- the edges up to one more pc
   pub each_edge-more : (old : List NodeName) (before : List Edge) → NodesStay old nodes → ((e : Edge) → Contains before e → Contains edges e)
@@ -129,10 +135,12 @@ module _ (program : Program) (labels : Labels) (pc : ℕ) (nodes : List NodeName
       → (a b : Node) (kind : EdgeKind) → DependenceEdge program labels a kind b → position a.kind ≤ pc + 1 → position b.kind ≤ pc + 1 → HasEdge nodes edges a kind b
   each_edge-more old before stay grow each a b kind is low high =
       elim (cases_eq (position a.kind) (pc + 1)) [
-          inl here ↦ edge_here a b kind is low high (inl here)
+        | inl here ↦ edge_here a b kind is low high (inl here)
         | inr na ↦ elim (cases_eq (position b.kind) (pc + 1)) [
-            inl here ↦ edge_here a b kind is low high (inr here)
-          | inr nb ↦ has_edge-more old nodes before edges a b kind stay grow (each a b kind is (omega arith) (omega arith)) ] ]
+          | inl here ↦ edge_here a b kind is low high (inr here)
+          | inr nb ↦ has_edge-more old nodes before edges a b kind stay grow (each a b kind is (omega arith) (omega arith))
+        ]
+      ]
 
 -- ---- the kinds at a pc
 
@@ -194,11 +202,12 @@ module _ (program : Program) (labels : Labels) (code : Code) (typed : IsTypedCod
       → (n : Node) → IsNode program labels n → position n.kind ≤ pc + 1 → (j : ℕ) × (node_in nodes j ≡ Some n)
   each_node-more pc old nodes stay each cover n is low =
       elim (cases_eq (position n.kind) (pc + 1)) [
-          inl here ↦
+        | inl here ↦
             let k = node_kind program labels code typed n is in
             let new = cover n.kind k.1 here in
             (new.0, new.1 ∙ ap (λ x. Some x) (sym k.0))
-        | inr other ↦ let was = each n is (omega arith) in (was.0, stay was.0 n was.1) ]
+        | inr other ↦ let was = each n is (omega arith) in (was.0, stay was.0 n was.1)
+      ]
 
 -- ---- edges to uses
 
@@ -214,8 +223,9 @@ pub uses_right : (program : Program) (labels : Labels) (nodes : List NodeName) (
 uses_right program labels nodes definitions j [] right e is = absurd (contains_none e is)
 uses_right program labels nodes definitions j (v ∷ vs) right e is =
     elim (Contains-append_cases (use_edges (definition_of definitions v) j) (uses_edges definitions vs j) e is) [
-        inl first ↦ use_right program labels nodes j (definition_of definitions v) (λ d def. right v d (contains_first v vs) def) e first
-      | inr rest ↦ uses_right program labels nodes definitions j vs (λ w d among def. right w d (Contains-append_right (v ∷ []) vs w among) def) e rest ]
+      | inl first ↦ use_right program labels nodes j (definition_of definitions v) (λ d def. right v d (contains_first v vs) def) e first
+      | inr rest ↦ uses_right program labels nodes definitions j vs (λ w d among def. right w d (Contains-append_right (v ∷ []) vs w among) def) e rest
+    ]
 
 pub use_there : (j d : ℕ) (o : Option ℕ) → o ≡ Some d → Contains (use_edges o j) (edge d Data j)
 use_there j d o e = subst (λ x. Contains (use_edges x j) (edge d Data j)) (sym e) (contains_first (edge d Data j) [])
@@ -224,8 +234,9 @@ pub uses_there : (definitions : Definitions) (j d : ℕ) (v : Place) (vs : List 
 uses_there definitions j d v [] among e = absurd (contains_none v among)
 uses_there definitions j d v (w ∷ vs) among e =
     elim (contains_cons w vs v among) [
-        inl same ↦ Contains-append_left (use_edges (definition_of definitions w) j) (uses_edges definitions vs j) (edge d Data j) (use_there j d (definition_of definitions w) (ap (definition_of definitions) same ∙ e))
-      | inr rest ↦ Contains-append_right (use_edges (definition_of definitions w) j) (uses_edges definitions vs j) (edge d Data j) (uses_there definitions j d v vs rest e) ]
+      | inl same ↦ Contains-append_left (use_edges (definition_of definitions w) j) (uses_edges definitions vs j) (edge d Data j) (use_there j d (definition_of definitions w) (ap (definition_of definitions) same ∙ e))
+      | inr rest ↦ Contains-append_right (use_edges (definition_of definitions w) j) (uses_edges definitions vs j) (edge d Data j) (uses_there definitions j d v vs rest e)
+    ]
 
 -- ---- the table of definitions
 
@@ -249,10 +260,12 @@ cases_place Pending Pending = inl refl
 cases_contains : (vs : List Place) (v : Place) → Contains vs v ⊎ (Contains vs v → ⊥)
 cases_contains [] v = inr (contains_none v)
 cases_contains (w ∷ vs) v = elim (cases_place w v) [
-    inl same ↦ inl (subst (λ x. Contains (w ∷ vs) x) same (contains_first w vs))
+  | inl same ↦ inl (subst (λ x. Contains (w ∷ vs) x) same (contains_first w vs))
   | inr other ↦ elim (cases_contains vs v) [
-      inl rest ↦ inl (Contains-append_right (w ∷ []) vs v rest)
-    | inr none ↦ inr (λ is. elim (contains_cons w vs v is) [ inl same ↦ other same | inr rest ↦ none rest ]) ] ]
+    | inl rest ↦ inl (Contains-append_right (w ∷ []) vs v rest)
+    | inr none ↦ inr (λ is. elim (contains_cons w vs v is) [ inl same ↦ other same | inr rest ↦ none rest ])
+  ]
+]
 
 -- what control leaves by writes its places, and every other definition stays
 module _ (program : Program) (labels : Labels) (code : Code) (typed : IsTypedCode program labels.entry code) (pc next : ℕ) (operation : Operation) (found : operation_at program labels.entry pc ≡ Some (operation, next)) (behind : IsBehind program labels.entry code pc) where
@@ -264,19 +277,21 @@ module _ (program : Program) (labels : Labels) (code : Code) (typed : IsTypedCod
       → IsDefined program labels (node_at program labels.entry next) nodes after
   defined_next old nodes before after places j defined stay written at to from flow leads keep = record {
     right = λ v i e. elim (cases_contains places v) [
-        inl among ↦
+      | inl among ↦
           let same : j ≡ i = same_Some j i (sym (written.here v among) ∙ e) in
           (out_of (node_at program labels.entry pc), flow, one (node_at program labels.entry next) leads (from v among), ap (node_in nodes) (sym same) ∙ at)
       | inr none ↦
           let was = defined.right v i (sym (written.others v none) ∙ e) in
-          (was.0, was.1, keep v was.0 was.2 (λ w. none (to v w)), stay i (node (root labels) was.0) was.3) ];
+          (was.0, was.1, keep v was.0 was.2 (λ w. none (to v w)), stay i (node (root labels) was.0) was.3)
+    ];
     each = λ v d flows r. elim (reaches_next program labels.entry code typed pc next operation found behind v d flows r) [
-        inl here ↦
+      | inl here ↦
           let among = to v (subst (λ k. Writes program labels.entry k v) here.0 here.1) in
           (j, written.here v among, at ∙ ap (λ k. Some (node (root labels) k)) (sym here.0))
       | inr before ↦
           let was = defined.each v d flows before.0 in
-          (was.0, written.others v (λ is. before.1 (from v is)) ∙ was.1, stay was.0 (node (root labels) d) was.2) ]
+          (was.0, written.others v (λ is. before.1 (from v is)) ∙ was.1, stay was.0 (node (root labels) d) was.2)
+    ];
   }
 
 -- ---- edges by the words
@@ -285,7 +300,7 @@ pub control_right : (program : Program) (labels : Labels) (nodes : List NodeName
     → (e : Edge) → Contains (control_edges j) e → IsEdgeOf program labels nodes e
 control_right program labels nodes j k flow no_entry no_exit first at e is =
     subst (λ x. IsEdgeOf program labels nodes x) (contains_one (edge 0 Control j) e is)
-      (node (root labels) Entry, node (root labels) k, first, at, controlled (root labels) Entry k at_entry (stays Entry) (entry_controls program labels.entry k flow no_entry no_exit))
+    (node (root labels) Entry, node (root labels) k, first, at, controlled (root labels) Entry k at_entry (stays Entry) (entry_controls program labels.entry k flow no_entry no_exit))
 
 pub cursor_flow : (program : Program) (labels : Labels) (source : ℕ) (x : Node) → UsesCursor program labels source x → IsFlowNode program labels.entry x.kind
 cursor_flow program labels source x (at_result i p s at_entry flow callee is) = flow
@@ -353,40 +368,52 @@ module _ (program : Program) (labels : Labels) (code : Code) (typed : IsTypedCod
       let no = λ (call : node_at program labels.entry pc ≡ Call pc). no_call program labels code typed pc pc refl instr call in
       let cover : CoversEdges program labels pc more all = record {
         uses = λ d v flows r reads.
-          let was = defined.each v d flows (subst (λ k. Reaches program labels.entry v d k) (sym instr) r) in
-          (was.0, j, stay was.0 (node (root labels) d) was.2, at,
-            Contains-append_left (edges ++ c ++ u) o (edge was.0 Data j) (Contains-append_right (edges ++ c) u (edge was.0 Data j)
-              (uses_there definitions j was.0 v (reads_of operation h) (instr_reads program labels pc next operation found h has v reads) was.1)));
+            let was = defined.each v d flows (subst (λ k. Reaches program labels.entry v d k) (sym instr) r) in (
+              was.0,
+              j,
+              stay was.0 (node (root labels) d) was.2,
+              at,
+              Contains-append_left (edges ++ c ++ u) o (edge was.0 Data j) (Contains-append_right (edges ++ c) u (edge was.0 Data j)
+                  (uses_there definitions j was.0 v (reads_of operation h) (instr_reads program labels pc next operation found h has v reads) was.1)),
+            );
         passes = λ d v k flows r place. absurd (no (call_line program labels code typed pc (reaches_flow program labels.entry v d (Call pc) flows r)));
         shows = λ v flows sink place. absurd (no (call_line program labels code typed pc flows));
         controls = λ n flows here.
-          subst (λ k. HasEdge more all (node (root labels) Entry) Control (node (root labels) k)) (sym (kind_at_instr program labels code typed pc instr n (flow_kind program labels code typed n flows) here))
+            subst (λ k. HasEdge more all (node (root labels) Entry) Control (node (root labels) k)) (sym (kind_at_instr program labels code typed pc instr n (flow_kind program labels code typed n flows) here))
             (0, j, first, at, Contains-append_left (edges ++ c ++ u) o (edge 0 Control j) (Contains-append_left (edges ++ c) u (edge 0 Control j) (Contains-append_right edges c (edge 0 Control j) (contains_first (edge 0 Control j) []))));
         ends = λ to flows returns.
-          let is = (some_pair_parts operation Return next to (sym found ∙ returns)).0 in
-          (j, 2, at, third, Contains-append_right (edges ++ c ++ u) o (edge j Out 2) (subst (λ x. Contains (out_edges x j) (edge j Out 2)) (sym is) (contains_first (edge j Out 2) [])));
-        inputs = λ source y mine other low. absurd (no (return_line program labels code typed pc (cursor_flow program labels source (node (root labels) (RetVal pc)) mine)))
+            let is = (some_pair_parts operation Return next to (sym found ∙ returns)).0 in
+            (j, 2, at, third, Contains-append_right (edges ++ c ++ u) o (edge j Out 2) (subst (λ x. Contains (out_edges x j) (edge j Out 2)) (sym is) (contains_first (edge j Out 2) [])));
+        inputs = λ source y mine other low. absurd (no (return_line program labels code typed pc (cursor_flow program labels source (node (root labels) (RetVal pc)) mine)));
       } in
       record {
         nodes_right = nodes-weaker program labels (3 * pc + 4 + 1) (4 + 3 * (pc + 1)) more
-          (nodes-push program labels (4 + 3 * pc) nodes name built.nodes_right (of_flow (root labels) (Instr pc) at_entry flow) (omega arith) refl) (omega arith);
+            (nodes-push program labels (4 + 3 * pc) nodes name built.nodes_right (of_flow (root labels) (Instr pc) at_entry flow) (omega arith) refl) (omega arith);
         few = (let l = length_push nodes name in let f = built.few in omega arith);
         each_node = each_node-more program labels code typed pc nodes more stay built.each_node (λ k is here. (j, at ∙ ap (λ x. Some (node (root labels) x)) (sym (kind_at_instr program labels code typed pc instr k is here))));
         first = first;
         third = third;
         only_edges = λ e is. elim (Contains-append_cases (edges ++ c ++ u) o e is) [
-            inl x ↦ elim (Contains-append_cases (edges ++ c) u e x) [
-                inl y ↦ elim (Contains-append_cases edges c e y) [
-                    inl was ↦ edge_of-more program labels nodes more e stay (built.only_edges e was)
-                  | inr control ↦ control_right program labels more j (Instr pc) flow (λ z. cc) (λ z. cc) first at e control ]
-              | inr used_here ↦ uses_right program labels more definitions j (reads_of operation h) (λ v d among def.
-                  let was = defined.right v d def in
-                  (node (root labels) was.0, node (root labels) (Instr pc), stay d (node (root labels) was.0) was.3, at,
-                    used (root labels) was.0 (Instr pc) v at_entry was.1 (subst (λ k. Reaches program labels.entry v was.0 k) instr was.2) (by_instr pc next h operation v found has among))) e used_here ]
-          | inr out ↦ out_right program labels pc next j operation found more flow at third e out ];
+          | inl x ↦ elim (Contains-append_cases (edges ++ c) u e x) [
+            | inl y ↦ elim (Contains-append_cases edges c e y) [
+              | inl was ↦ edge_of-more program labels nodes more e stay (built.only_edges e was)
+              | inr control ↦ control_right program labels more j (Instr pc) flow (λ z. cc) (λ z. cc) first at e control
+            ]
+            | inr used_here ↦ uses_right program labels more definitions j (reads_of operation h) (λ v d among def.
+                let was = defined.right v d def in (
+                  node (root labels) was.0,
+                  node (root labels) (Instr pc),
+                  stay d (node (root labels) was.0) was.3,
+                  at,
+                  used (root labels) was.0 (Instr pc) v at_entry was.1 (subst (λ k. Reaches program labels.entry v was.0 k) instr was.2) (by_instr pc next h operation v found has among),
+                )) e used_here
+          ]
+          | inr out ↦ out_right program labels pc next j operation found more flow at third e out
+        ];
         each_edge = each_edge-more program labels pc more all cover nodes edges stay in_old built.each_edge;
         results_right = λ r is. (let was = built.results_right r is in (was.0, stay r.node was.0 was.1, was.2));
         each_result = λ source n mine low. elim (cases_eq (position n.kind) (pc + 1)) [
-            inl here ↦ absurd (no (return_line program labels code typed pc (cursor_flow program labels source (node (root labels) (RetVal pc)) (subst (λ x. UsesCursor program labels source x) (cursor_here program labels pc more all cover source n mine here) mine))))
-          | inr other ↦ (let was = built.each_result source n mine (omega arith) in (was.0, stay was.0 n was.1, was.2)) ]
+          | inl here ↦ absurd (no (return_line program labels code typed pc (cursor_flow program labels source (node (root labels) (RetVal pc)) (subst (λ x. UsesCursor program labels source x) (cursor_here program labels pc more all cover source n mine here) mine))))
+          | inr other ↦ (let was = built.each_result source n mine (omega arith) in (was.0, stay was.0 n was.1, was.2))
+        ];
       }

@@ -1,11 +1,10 @@
 -- What typing says of the heights, the locals and the native methods of plain code.
-use Rattle.std.proofs.Common.{◌≡◌, ◌⊎◌, inl, inr, ℕ, zero, suc, ◌+◌, ◌-◌, ◌<◌, ◌≤◌, Bool, true, false, ◌&&◌, cond, ltb, leb, List, [], ◌∷◌, ◌++◌, length, replicate, set, Option, Some, None, IsSome, Contains, refl, sym, ap, subst, ◌∙◌, arith, length-append, length-set}
-use Rattle.std.specs.Prelude.{◌==◌, option_map, option_and_then, slice_get, nat_lt, nat_le, codes}
+use Rattle.std.proofs.Common.{◌≡◌, ◌⊎◌, inl, inr, ℕ, zero, suc, ◌+◌, ◌-◌, ◌<◌, ◌≤◌, Bool, true, false, ◌&&◌, cond, List, [], ◌∷◌, length, replicate, set, Option, Some, None, Contains, refl, sym, ap, subst, ◌∙◌, arith, length-append, length-set}
+use Rattle.std.specs.Prelude.{◌==◌, option_map, option_and_then, slice_get, nat_lt, nat_le}
 use Rattle.std.specs.List.{AllByRecursion}
 use Rattle.std.proofs.lemmas.Bool.{false≢true, and_parts, ltb-true, leb-true, eqb-true}
 use Rattle.std.proofs.lemmas.Option.{none-some, same_Some, some_pair_parts}
 use Rattle.std.proofs.lemmas.List.{length-replicate}
-use Rattle.class_read.specs.ClassGrammar.{has_flag, native_flag}
 use Rattle.class_read.specs.declared.jo_insn.Operation.{Operation}
 use Rattle.class_read.specs.declared.jo_insn.Operation.TheVariants.{Constant, Load, Store, Add, Subtract, InvokeStatic, Return, Other}
 use Rattle.jo_prog.specs.declared.program.Program.{Program}
@@ -15,11 +14,11 @@ use Rattle.jo_prog.specs.declared.labels.Labels.{Labels}
 use Rattle.jo_prog.specs.declared.labels.Label.{Label}
 use Rattle.jo_prog.specs.declared.labels.Label.TheVariants.{Source, Sink, Release}
 use Rattle.jo_prog.specs.Labels.{label_of, label_among}
-use Rattle.jo_prog.specs.Program.{method_at, operation_at, callee_at}
-use Rattle.jo_prog.specs.PlainCode.{IsLabelledNative, desc_for, goes_on, calls_labelled, is_source_or_sink}
-use Rattle.jo_prog.specs.Typing.{Kind, Int, Null, Ref, Unset, Shape, After, with_stack, shape_at_start, goes_to, pop_ints, push_ints, exchange, exchange_by, loaded, stored, call_effect, call_effect_of, leads_on, shape_after, typed_by, typed_at, Arrives, at_start, by_step, IsTypedCode}
+use Rattle.jo_prog.specs.Program.{operation_at, callee_at}
+use Rattle.jo_prog.specs.PlainCode.{IsLabelledNative, desc_for, calls_labelled, is_source_or_sink}
+use Rattle.jo_prog.specs.Typing.{Kind, Int, Null, Ref, Unset, Shape, After, with_stack, pop_ints, push_ints, exchange, exchange_by, loaded, stored, call_effect, call_effect_of, leads_on, shape_after, typed_by, typed_at, Arrives, at_start, by_step, IsTypedCode}
 use Rattle.flow_graph.specs.declared.flow.Place.{Place}
-use Rattle.flow_graph.specs.declared.flow.Place.TheVariants.{Local, Stack, Pending}
+use Rattle.flow_graph.specs.declared.flow.Place.TheVariants.{Local, Stack}
 use Rattle.flow_graph.specs.declared.sdg.Definitions.{Definitions}
 use Rattle.flow_graph.specs.Flow.{writes_of, calls_native, is_native_method, arguments_at, results_at}
 use Rattle.flow_graph.specs.Graph.{is_source, is_sink}
@@ -166,10 +165,11 @@ typed_made : (program : Program) (code : Code) (callee : Option ℕ) (found : Op
 typed_made program code callee None operation next s after is e = absurd (none-some _ is)
 typed_made program code callee (Some (o, n)) operation next s after is e =
     let same = some_pair_parts o operation n next is in
-    let made = led_gone code o n (shape_after program callee o s) after e in
-    ( made.0
-    , subst (λ x. shape_after program callee x s ≡ Some made.0) same.0 made.1
-    , subst (λ x. leads_on code x next made.0 ≡ Some after) same.0 (subst (λ x. leads_on code o x made.0 ≡ Some after) same.1 made.2) )
+    let made = led_gone code o n (shape_after program callee o s) after e in (
+      made.0,
+      subst (λ x. shape_after program callee x s ≡ Some made.0) same.0 made.1,
+      subst (λ x. leads_on code x next made.0 ≡ Some after) same.0 (subst (λ x. leads_on code o x made.0 ≡ Some after) same.1 made.2),
+    )
 
 pub goes_on_from : (program : Program) (m : ℕ) (code : Code) → IsTypedCode program m code → (pc next : ℕ) (operation : Operation) (s : Shape) → Arrives program m code pc s → operation_at program m pc ≡ Some (operation, next) → (operation ≡ Return → ⊥) → GoesOnTo program m code pc next operation s
 goes_on_from program m code typed pc next operation s arrives found other =
@@ -177,8 +177,11 @@ goes_on_from program m code typed pc next operation s arrives found other =
     let made = typed_made program code (callee_at program m pc) (operation_at program m pc) operation next s after.0 found after.1 in
     let to = leads_gone code operation next made.0 after.0 other made.2 in
     record {
-      shape = made.0; made = made.1; inside = to.0; high = to.1;
-      arrives = subst (λ (a : After). Arrives program m code next a.shape) to.2 (by_step pc next s after.0 arrives after.1 (ap (λ (a : After). a.next) to.2))
+      shape = made.0;
+      made = made.1;
+      inside = to.0;
+      high = to.1;
+      arrives = subst (λ (a : After). Arrives program m code next a.shape) to.2 (by_step pc next s after.0 arrives after.1 (ap (λ (a : After). a.next) to.2));
     }
 
 -- the shape that goes on is the one that was made
@@ -229,12 +232,12 @@ native_call : (program : Program) (labels : Labels) (m pc s pops pushes : ℕ) (
 native_call program labels m pc s pops pushes label natives callee is shape =
     let item = labelled_item program labels labels.labelled s label natives is in
     let effect : call_effect_of program (callee_at program m pc) ≡ Some (pops, pushes) =
-      ap (call_effect_of program) callee ∙ ap (option_and_then (λ (method : Method). call_effect method.desc)) item.found ∙ ap call_effect item.shape ∙ shape in
+    ap (call_effect_of program) callee ∙ ap (option_and_then (λ (method : Method). call_effect method.desc)) item.found ∙ ap call_effect item.shape ∙ shape in
     record {
       native = ap (calls_native program) callee ∙ ap is_native_method item.found ∙ item.is_native;
       effect = effect;
       counts = ap (option_map (λ (x : ℕ × ℕ). x.0)) effect;
-      gives = ap (option_map (λ (x : ℕ × ℕ). x.1)) effect
+      gives = ap (option_map (λ (x : ℕ × ℕ). x.1)) effect;
     }
 
 source_label : (o : Option Label) → is_source o ≡ true → (level : ℕ) × (o ≡ Some (Source level))

@@ -1,8 +1,8 @@
 -- The walk over plain code, from its start to its return.
-use Rattle.std.proofs.Common.{◌≡◌, ◌≢◌, ◌⊎◌, inl, inr, ℕ, zero, suc, ◌+◌, ◌*◌, ◌-◌, ◌^◌, ◌<◌, ◌≤◌, Bool, true, false, List, [], ◌∷◌, ◌++◌, length, replicate, get_or, Option, Some, None, Contains, refl, sym, ap, subst, ◌∙◌, arith}
+use Rattle.std.proofs.Common.{◌≡◌, ◌≢◌, ◌⊎◌, inl, inr, ℕ, ◌+◌, ◌*◌, ◌-◌, ◌^◌, ◌<◌, ◌≤◌, true, false, List, [], ◌∷◌, ◌++◌, length, replicate, get_or, Option, Some, None, Contains, refl, sym, ap, subst, ◌∙◌, arith}
 use Rattle.std.specs.List.{AllByRecursion}
-use Rattle.std.proofs.lemmas.Bool.{cases_eq, cases_lt, cases_Bool, false≢true, true≢false}
-use Rattle.std.proofs.lemmas.Option.{none-some, same_Some}
+use Rattle.std.proofs.lemmas.Bool.{cases_lt, cases_Bool, false≢true, true≢false}
+use Rattle.std.proofs.lemmas.Option.{none-some}
 use Rattle.std.proofs.lemmas.List.{length-replicate, get_or-replicate, get_or_past, length_push}
 use Rattle.class_read.specs.declared.jo_insn.Operation.{Operation}
 use Rattle.class_read.specs.declared.jo_insn.Operation.TheVariants.{Constant, Load, Store, Add, Subtract, InvokeStatic, Return, Other}
@@ -22,21 +22,20 @@ use Rattle.flow_graph.specs.declared.flow.NodeKind.TheVariants.{Entry, Exit, Ins
 use Rattle.flow_graph.specs.declared.dep_nodes.EdgeKind.{EdgeKind}
 use Rattle.flow_graph.specs.declared.dep_nodes.NodeName.{NodeName}
 use Rattle.flow_graph.specs.declared.dep_nodes.Edge.{Edge}
-use Rattle.flow_graph.specs.declared.dep_nodes.Graph.{Graph}
 use Rattle.flow_graph.specs.declared.sdg.Definitions.{Definitions}
 use Rattle.flow_graph.specs.declared.sdg.SourceResult.{SourceResult}
 use Rattle.flow_graph.specs.declared.sdg.Builder.{Builder}
-use Rattle.flow_graph.specs.Flow.{node_of, node_at, falls_through, FlowEdge, begins, skips, falls, leaves, calls, arrives, Path, stays, steps, IsFlowNode, reads_of, writes_of, Reads, Writes, by_instr, by_result, ArgumentPlace}
-use Rattle.flow_graph.specs.Dependence.{Reaches, one, more, Controls}
+use Rattle.flow_graph.specs.Flow.{node_of, node_at, falls_through, FlowEdge, begins, skips, falls, leaves, calls, arrives, Path, stays, steps, IsFlowNode, writes_of, Reads, Writes, by_instr, by_result}
+use Rattle.flow_graph.specs.Dependence.{Reaches, one, more}
 use Rattle.flow_graph.specs.Graph.{Node, node, at_entry, IsNode, of_flow, of_kind, of_thrown, is_source, is_sink, UsesCursor, at_result, DependenceEdge, used, passed, shown, controlled, ended, next_input}
 use Rattle.flow_graph.specs.GraphData.{IsDependenceGraph}
-use Rattle.flow_graph.specs.Building.{definition_of, HasPlace, AreWritten, name_of, start_nodes, IsStart, is_call, is_return, height_after, AddsInstruction, AddsSource, AddsSink}
-use Rattle.flow_graph.proofs.PlainLine.{node_at_one, node_at_step, out_of, LineAt, flow_line, flow_on, reaches_flow, IsBehind, between, behind_next}
+use Rattle.flow_graph.specs.Building.{definition_of, HasPlace, name_of, start_nodes, IsStart, is_call, is_return, height_after, AddsInstruction, AddsSource, AddsSink}
+use Rattle.flow_graph.proofs.PlainLine.{node_at_one, node_at_step, out_of, flow_line, flow_on, IsBehind, between, behind_next}
 use Rattle.flow_graph.proofs.PlainReaching.{position, no_write_at_call, root, IsKindOf, node_kind, node_placed, edge_from, edge_to, controlled_flow}
-use Rattle.flow_graph.proofs.NodeLists.{contains_one, contains_none, contains_first, node_in, NodesStay, stay-push, node-push, AreNodes, nodes-none, nodes-push, nodes-weaker, HasEdge, IsEdgeOf}
+use Rattle.flow_graph.proofs.NodeLists.{contains_one, contains_none, contains_first, node_in, NodesStay, stay-push, node-push, nodes-none, nodes-push, nodes-weaker}
 use Rattle.flow_graph.proofs.PlainSteps.{IsBuilt, IsDefined, defined_next, instr_writes, instr_built}
-use Rattle.flow_graph.proofs.PlainCalls.{return_flow, source_built, sink_built, result_place}
-use Rattle.flow_graph.proofs.PlainTyping.{goes_on_from, height_by, height_by_call, places_by, arrival_locals, IsNativeCall, source_call, sink_call, plain_callee}
+use Rattle.flow_graph.proofs.PlainCalls.{source_built, sink_built, result_place}
+use Rattle.flow_graph.proofs.PlainTyping.{goes_on_from, height_by, height_by_call, places_by, arrival_locals, source_call, sink_call, plain_callee}
 
 -- ---- operations
 
@@ -170,7 +169,7 @@ module _ (program : Program) (labels : Labels) (code : Code) (typed : IsTypedCod
   no_edge_at_start a b kind (controlled i d n at_entry flow c) low high =
       let flows = controlled_flow program labels.entry d n flow c in
       no_control_at_start n (node_kind program labels code typed (node (root labels) n) (of_flow (root labels) n at_entry flows)).1 high
-        (λ is. into_entry program labels.entry d c.first c.leads (path_to_entry program labels.entry c.first n c.path is)) c.no_exit flows
+      (λ is. into_entry program labels.entry d c.first c.leads (path_to_entry program labels.entry c.first n c.path is)) c.no_exit flows
   no_edge_at_start a b kind (ended i p next at_entry flow found) low high = (let no : ⊥ = omega arith in no)
   no_edge_at_start a b kind (next_input source x y first second) low high = no_cursor_at_start source x first low
 
@@ -185,12 +184,12 @@ module _ (program : Program) (labels : Labels) (code : Code) (typed : IsTypedCod
       let d = name_of m Thrown None in
       record {
         nodes_right = nodes-weaker program labels (3 + 1) (4 + 3 * 0) (start_nodes m)
-          (nodes-push program labels (2 + 1) (a ∷ b ∷ c ∷ []) d
+            (nodes-push program labels (2 + 1) (a ∷ b ∷ c ∷ []) d
             (nodes-push program labels (1 + 1) (a ∷ b ∷ []) c
-              (nodes-push program labels (0 + 1) (a ∷ []) b
-                (nodes-push program labels 0 [] a (nodes-none program labels) (of_flow (root labels) Entry at_entry entry_flow) (omega arith) refl)
-                (of_flow (root labels) Exit at_entry exit_flow) (omega arith) refl)
-              (of_kind (root labels) at_entry) (omega arith) refl)
+            (nodes-push program labels (0 + 1) (a ∷ []) b
+            (nodes-push program labels 0 [] a (nodes-none program labels) (of_flow (root labels) Entry at_entry entry_flow) (omega arith) refl)
+            (of_flow (root labels) Exit at_entry exit_flow) (omega arith) refl)
+            (of_kind (root labels) at_entry) (omega arith) refl)
             (of_thrown (root labels) at_entry) (omega arith) refl) (omega arith);
         few = omega arith;
         each_node = λ n is low. (let k = node_kind program labels code typed n is in let at = start_node n.kind k.1 low in (at.0, at.1 ∙ ap (λ x. Some x) (sym k.0)));
@@ -199,13 +198,14 @@ module _ (program : Program) (labels : Labels) (code : Code) (typed : IsTypedCod
         only_edges = λ e is. absurd (contains_none e is);
         each_edge = λ x y kind is low high. absurd (no_edge_at_start x y kind is low high);
         results_right = λ r is. absurd (contains_none r is);
-        each_result = λ source n is low. absurd (no_cursor_at_start source n is low)
+        each_result = λ source n is low. absurd (no_cursor_at_start source n is low);
       }
 
 none_there : (n k j : ℕ) → get_or (replicate {A = Option ℕ} n None) k None ≡ Some j → ⊥
 none_there n k j e = elim (cases_lt k n) [
-    inl within ↦ none-some j (sym (get_or-replicate n k None None within) ∙ e)
-  | inr past ↦ none-some j (sym (get_or_past (replicate n None) k None (let l = length-replicate {A = Option ℕ} n None in omega arith)) ∙ e) ]
+  | inl within ↦ none-some j (sym (get_or-replicate n k None None within) ∙ e)
+  | inr past ↦ none-some j (sym (get_or_past (replicate n None) k None (let l = length-replicate {A = Option ℕ} n None in omega arith)) ∙ e)
+]
 
 no_definition : (definitions : Definitions) (n s : ℕ) → definitions.locals.items ≡ replicate n None → definitions.stack.items ≡ replicate s None → (v : Place) (j : ℕ) → definition_of definitions v ≡ Some j → ⊥
 no_definition definitions n s locals stack (Local k) j e = none_there n k j (ap (λ t. get_or t k None) (sym locals) ∙ e)
@@ -239,20 +239,29 @@ pub walked_start : (program : Program) (labels : Labels) (b : Builder) (plain : 
 walked_start program labels b plain short low start =
     let m = labels.entry in
     let built : IsBuilt program labels 0 b.nodes b.edges b.results =
-      subst (λ x. IsBuilt program labels 0 x b.edges b.results) (sym start.nodes) (subst (λ x. IsBuilt program labels 0 (start_nodes m) x b.results) (sym start.edges)
-        (subst (λ x. IsBuilt program labels 0 (start_nodes m) [] x) (sym start.results) (start_built program labels plain.code plain.typed))) in
+    subst (λ x. IsBuilt program labels 0 x b.edges b.results) (sym start.nodes) (subst (λ x. IsBuilt program labels 0 (start_nodes m) x b.results) (sym start.edges)
+    (subst (λ x. IsBuilt program labels 0 (start_nodes m) [] x) (sym start.results) (start_built program labels plain.code plain.typed))) in
     record {
-      code = plain.code; found = plain.found; typed = plain.typed; natives = plain.well_labelled.natives; short = short; low = low; plain = plain.plain; small = omega arith;
-      shape = shape_at_start plain.code; arrives = at_start; height_is = refl;
+      code = plain.code;
+      found = plain.found;
+      typed = plain.typed;
+      natives = plain.well_labelled.natives;
+      short = short;
+      low = low;
+      plain = plain.plain;
+      small = omega arith;
+      shape = shape_at_start plain.code;
+      arrives = at_start;
+      height_is = refl;
       behind = λ p s arr below. absurd (omega arith);
       flow = steps Entry (node_at program m 0) (node_at program m 0) (begins (node_at program m 0) refl) (stays (node_at program m 0));
       built = built;
       defined = record {
         right = λ v j e. absurd (no_definition b.definitions plain.code.max_locals plain.code.max_stack start.locals start.stack v j e);
-        each = λ v d flow r. absurd (reaches_start program m v d (node_at program m 0) r refl)
+        each = λ v d flow r. absurd (reaches_start program m v d (node_at program m 0) r refl);
       };
       locals = ap length start.locals ∙ length-replicate plain.code.max_locals None;
-      stack = ap length start.stack ∙ length-replicate plain.code.max_stack None
+      stack = ap length start.stack ∙ length-replicate plain.code.max_stack None;
     }
 
 same_built : (program : Program) (labels : Labels) (bound : ℕ) (nodes nodes' : List NodeName) (edges edges' : List Edge) (results results' : List SourceResult) → nodes' ≡ nodes → edges' ≡ edges → results' ≡ results
@@ -263,9 +272,12 @@ same_built program labels bound nodes nodes' edges edges' results results' e f g
 module _ (program : Program) (labels : Labels) (pc next height : ℕ) (operation : Operation) (b : Builder) (w : IsWalked program labels pc height b) (found : operation_at program labels.entry pc ≡ Some (operation, next)) where
   at_most : (n : Node) → IsNode program labels n → (operation ≡ Return → ⊥) → position n.kind ≤ next → position n.kind ≤ pc + 1
   at_most n is other low = elim (node_placed program labels w.code w.typed n is) [
-      inl none ↦ omega arith
+    | inl none ↦ omega arith
     | inr at ↦ elim (between program labels.entry w.code w.typed pc next operation found w.behind at.0 at.1 at.2) [
-        inl up_to ↦ (let e = at.3 in omega arith) | inr beyond ↦ (let e = at.3 in let o = beyond.0 in absurd (omega arith)) ] ]
+      | inl up_to ↦ (let e = at.3 in omega arith)
+      | inr beyond ↦ (let e = at.3 in let o = beyond.0 in absurd (omega arith))
+    ]
+  ]
 
   -- no node stands between one more than the pc and the next pc
   built_next : (operation ≡ Return → ⊥) → (nodes : List NodeName) (edges : List Edge) (results : List SourceResult) → IsBuilt program labels (pc + 1) nodes edges results → IsBuilt program labels next nodes edges results
@@ -280,7 +292,7 @@ module _ (program : Program) (labels : Labels) (pc next height : ℕ) (operation
         only_edges = h.only_edges;
         each_edge = λ x y kind is low high. h.each_edge x y kind is (at_most x (edge_from program labels x y kind is) other low) (at_most y (edge_to program labels x y kind is) other high);
         results_right = h.results_right;
-        each_result = λ source n is low. h.each_result source n is (at_most n (cursor_is_node source n is) other low)
+        each_result = λ source n is low. h.each_result source n is (at_most n (cursor_is_node source n is) other low);
       }
     where
       cursor_is_node : (source : ℕ) (n : Node) → UsesCursor program labels source n → IsNode program labels n
@@ -295,7 +307,7 @@ module _ (program : Program) (labels : Labels) (pc next height : ℕ) (operation
       let l = arrival_locals program labels.entry w.code pc w.shape w.arrives in
       let high = on.high in
       places_by program (callee_at program labels.entry pc) operation w.shape on.shape b.definitions on.made other (w.locals ∙ sym l) (let s = w.stack in omega arith) v
-        (subst (λ x. Contains (writes_of operation x) v) (sym w.height_is) is)
+      (subst (λ x. Contains (writes_of operation x) v) (sym w.height_is) is)
 
   pub walked_next_small : (operation ≡ Return → ⊥) → next < 2 ^ 16
   walked_next_small other =
@@ -305,8 +317,9 @@ module _ (program : Program) (labels : Labels) (pc next height : ℕ) (operation
 
   pub walked_all_places : (v : Place) → Contains (writes_of operation height) v → HasPlace b.definitions v
   walked_all_places v is = elim (cases_Bool (is_return operation)) [
-      inl returns ↦ absurd (contains_none v (subst (λ o. Contains (writes_of o height) v) (return_is operation returns) is))
-    | inr other ↦ walked_places (no_return_from operation other) v is ]
+    | inl returns ↦ absurd (contains_none v (subst (λ o. Contains (writes_of o height) v) (return_is operation returns) is))
+    | inr other ↦ walked_places (no_return_from operation other) v is
+  ]
 
   pub walked_fits : is_call operation ≡ false → (operation ≡ Return → ⊥) → height_after operation height < 2 ^ 16
   walked_fits plain other =
@@ -332,22 +345,29 @@ module _ (program : Program) (labels : Labels) (pc next height : ℕ) (operation
       let stay : NodesStay b.nodes after.nodes = subst (λ x. NodesStay b.nodes x) (sym adds.nodes) (stay-push b.nodes (name_of m (Instr pc) None)) in
       let at : node_in after.nodes (length b.nodes) ≡ Some (node (root labels) (Instr pc)) = subst (λ x. node_in x (length b.nodes) ≡ Some (node (root labels) (Instr pc))) (sym adds.nodes) (node-push b.nodes (name_of m (Instr pc) None)) in
       record {
-        code = w.code; found = w.found; typed = w.typed; natives = w.natives; short = w.short; low = w.low; plain = rest.0;
+        code = w.code;
+        found = w.found;
+        typed = w.typed;
+        natives = w.natives;
+        short = w.short;
+        low = w.low;
+        plain = rest.0;
         small = (let i = on.inside in let s = w.short in omega arith);
-        shape = on.shape; arrives = on.arrives;
+        shape = on.shape;
+        arrives = on.arrives;
         height_is = height_by program (callee_at program m pc) operation w.shape on.shape plain on.made ∙ ap (height_after operation) w.height_is;
         behind = behind_next program m w.code w.typed pc next operation found w.behind other;
         flow = flow_on program m Entry (Instr pc) (node_at program m next) flow_here leads;
         built = built_next other after.nodes after.edges after.results (same_built program labels (pc + 1) _ after.nodes _ after.edges b.results after.results adds.nodes adds.edges adds.results new);
         defined = defined_next program labels w.code w.typed pc next operation found w.behind b.nodes after.nodes b.definitions after.definitions (writes_of operation height) (length b.nodes) w.defined stay adds.definitions
-          (at ∙ ap (λ k. Some (node (root labels) k)) (sym out))
-          (λ v wr. instr_writes program labels pc next operation found height has_height v (subst (λ k. Writes program m k v) out wr))
-          (λ v among. subst (λ k. Writes program m k v) (sym out) (by_instr pc next height operation v found has_height among))
-          (subst (λ k. IsFlowNode program m k) (sym out) flow_here)
-          (subst (λ k. FlowEdge program m k (node_at program m next)) (sym out) leads)
-          (λ v d r no_write. more (Instr pc) (node_at program m next) (subst (λ k. Reaches program m v d k) instr r) (subst (λ k. Writes program m k v → ⊥) out no_write) leads);
+            (at ∙ ap (λ k. Some (node (root labels) k)) (sym out))
+            (λ v wr. instr_writes program labels pc next operation found height has_height v (subst (λ k. Writes program m k v) out wr))
+            (λ v among. subst (λ k. Writes program m k v) (sym out) (by_instr pc next height operation v found has_height among))
+            (subst (λ k. IsFlowNode program m k) (sym out) flow_here)
+            (subst (λ k. FlowEdge program m k (node_at program m next)) (sym out) leads)
+            (λ v d r no_write. more (Instr pc) (node_at program m next) (subst (λ k. Reaches program m v d k) instr r) (subst (λ k. Writes program m k v → ⊥) out no_write) leads);
         locals = adds.definitions.sizes.0 ∙ w.locals;
-        stack = adds.definitions.sizes.1 ∙ w.stack
+        stack = adds.definitions.sizes.1 ∙ w.stack;
       }
 
   -- the return ends the graph
@@ -360,8 +380,9 @@ module _ (program : Program) (labels : Labels) (pc next height : ℕ) (operation
       let new = instr_built program labels w.code w.typed pc next operation found height has_height b.nodes b.edges b.results b.definitions w.built w.defined instr flow_here in
       let all : IsBuilt program labels (pc + 1) after.nodes after.edges after.results = same_built program labels (pc + 1) _ after.nodes _ after.edges b.results after.results adds.nodes adds.edges adds.results new in
       let low : (n : Node) → IsNode program labels n → position n.kind ≤ pc + 1 = λ n is. elim (node_placed program labels w.code w.typed n is) [
-          inl none ↦ omega arith
-        | inr at ↦ elim (between program m w.code w.typed pc next operation found w.behind at.0 at.1 at.2) [ inl up_to ↦ (let e = at.3 in omega arith) | inr beyond ↦ absurd (beyond.1 returns) ] ] in
+        | inl none ↦ omega arith
+        | inr at ↦ elim (between program m w.code w.typed pc next operation found w.behind at.0 at.1 at.2) [ inl up_to ↦ (let e = at.3 in omega arith) | inr beyond ↦ absurd (beyond.1 returns) ]
+      ] in
       record {
         small = (let f = all.few in let s = w.small in omega arith);
         each_node = λ n is. all.each_node n is (low n is);
@@ -369,7 +390,7 @@ module _ (program : Program) (labels : Labels) (pc next height : ℕ) (operation
         once = all.nodes_right.once;
         resolved = all.nodes_right.resolved;
         each_edge = λ x y kind is. all.each_edge x y kind is (low x (edge_from program labels x y kind is)) (low y (edge_to program labels x y kind is));
-        only_edges = λ i j kind is. all.only_edges (record { from = i; kind = kind; to = j }) is
+        only_edges = λ i j kind is. all.only_edges (record { from = i; kind = kind; to = j }) is;
       }
 
   -- the call of a source
@@ -400,27 +421,34 @@ module _ (program : Program) (labels : Labels) (pc next height : ℕ) (operation
       let at_grown : node_in grown (length b.nodes + 1) ≡ Some (node (root labels) (RetVal pc)) = subst (λ x. node_in grown x ≡ Some (node (root labels) (RetVal pc))) long (node-push one_more (name_of m (RetVal pc) (Some s))) in
       let at : node_in after.nodes (length b.nodes + 1) ≡ Some (node (root labels) (RetVal pc)) = subst (λ x. node_in x (length b.nodes + 1) ≡ Some (node (root labels) (RetVal pc))) (sym adds.nodes) at_grown in
       record {
-        code = w.code; found = w.found; typed = w.typed; natives = w.natives; short = w.short; low = w.low; plain = rest.0;
+        code = w.code;
+        found = w.found;
+        typed = w.typed;
+        natives = w.natives;
+        short = w.short;
+        low = w.low;
+        plain = rest.0;
         small = (let i = on.inside in let s = w.short in omega arith);
-        shape = on.shape; arrives = on.arrives;
+        shape = on.shape;
+        arrives = on.arrives;
         height_is = by_call.1 ∙ ap (λ x. x - 0 + 1) w.height_is ∙ (let e : height - 0 + 1 ≡ height + 1 = omega arith in e);
         behind = behind_next program m w.code w.typed pc next operation found w.behind other;
         flow = flow_on program m Entry (RetVal pc) (node_at program m next) result_flow leads;
         built = built_next other after.nodes after.edges after.results (same_built program labels (pc + 1) grown after.nodes _ after.edges (b.results ++ (record { source = s; node = length b.nodes + 1 }) ∷ []) after.results adds.nodes adds.edges adds.results new);
         defined = defined_next program labels w.code w.typed pc next operation found w.behind b.nodes after.nodes b.definitions after.definitions (Stack height ∷ []) (length b.nodes + 1) w.defined stay adds.definitions
-          (at ∙ ap (λ x. Some (node (root labels) x)) (sym out))
-          (λ v wr.
+            (at ∙ ap (λ x. Some (node (root labels) x)) (sym out))
+            (λ v wr.
             let is = (result_place program m pc height 0 1 v (subst (λ x. Writes program m x v) out wr) has_height call_is.counts call_is.gives).1 in
             let zero_off : height - 0 ≡ height = omega arith in
             subst (λ x. Contains (Stack height ∷ []) x) (ap (λ x. Stack x) (sym zero_off) ∙ sym is) (contains_first (Stack height) []))
-          (λ v among.
+            (λ v among.
             let zero_off : height - 0 ≡ height = omega arith in
             subst (λ x. Writes program m x v) (sym out) (subst (λ x. Writes program m (RetVal pc) x) (ap (λ x. Stack x) zero_off ∙ contains_one (Stack height) v among) (by_result pc height 0 has_height call_is.counts call_is.gives)))
-          (subst (λ x. IsFlowNode program m x) (sym out) result_flow)
-          (subst (λ x. FlowEdge program m x (node_at program m next)) (sym out) leads)
-          (λ v d r no_write. more (RetVal pc) (node_at program m next) (more (Call pc) (RetVal pc) (subst (λ x. Reaches program m v d x) call r) (no_write_at_call program m pc v) into) (subst (λ x. Writes program m x v → ⊥) out no_write) leads);
+            (subst (λ x. IsFlowNode program m x) (sym out) result_flow)
+            (subst (λ x. FlowEdge program m x (node_at program m next)) (sym out) leads)
+            (λ v d r no_write. more (RetVal pc) (node_at program m next) (more (Call pc) (RetVal pc) (subst (λ x. Reaches program m v d x) call r) (no_write_at_call program m pc v) into) (subst (λ x. Writes program m x v → ⊥) out no_write) leads);
         locals = adds.definitions.sizes.0 ∙ w.locals;
-        stack = adds.definitions.sizes.1 ∙ w.stack
+        stack = adds.definitions.sizes.1 ∙ w.stack;
       }
 
   -- the call of a sink
@@ -453,23 +481,30 @@ module _ (program : Program) (labels : Labels) (pc next height : ℕ) (operation
       let at_grown : node_in grown (length b.nodes + 2) ≡ Some (node (root labels) (RetVal pc)) = subst (λ x. node_in grown x ≡ Some (node (root labels) (RetVal pc))) long (node-push two_more (name_of m (RetVal pc) (Some s))) in
       let at : node_in after.nodes (length b.nodes + 2) ≡ Some (node (root labels) (RetVal pc)) = subst (λ x. node_in x (length b.nodes + 2) ≡ Some (node (root labels) (RetVal pc))) (sym adds.nodes) at_grown in
       record {
-        code = w.code; found = w.found; typed = w.typed; natives = w.natives; short = w.short; low = w.low; plain = rest.0;
+        code = w.code;
+        found = w.found;
+        typed = w.typed;
+        natives = w.natives;
+        short = w.short;
+        low = w.low;
+        plain = rest.0;
         small = (let i = on.inside in let s = w.short in omega arith);
-        shape = on.shape; arrives = on.arrives;
+        shape = on.shape;
+        arrives = on.arrives;
         height_is = by_call.1 ∙ ap (λ x. x - 1 + 0) w.height_is ∙ (let e : height - 1 + 0 ≡ height - 1 = omega arith in e);
         behind = behind_next program m w.code w.typed pc next operation found w.behind other;
         flow = flow_on program m Entry (RetVal pc) (node_at program m next) result_flow leads;
         built = built_next other after.nodes after.edges after.results (same_built program labels (pc + 1) grown after.nodes _ after.edges b.results after.results adds.nodes adds.edges adds.results new);
         defined = defined_next program labels w.code w.typed pc next operation found w.behind b.nodes after.nodes b.definitions after.definitions [] (length b.nodes + 2) w.defined stay
-          (record { here = λ v is. absurd (contains_none v is); others = λ v none. ap (λ d. definition_of d v) adds.definitions; sizes = (ap (λ d. length d.locals.items) adds.definitions, ap (λ d. length d.stack.items) adds.definitions) })
-          (at ∙ ap (λ x. Some (node (root labels) x)) (sym out))
-          (λ v wr. (let is = (result_place program m pc height 1 0 v (subst (λ x. Writes program m x v) out wr) has_height call_is.counts call_is.gives).0 in absurd (omega arith)))
-          (λ v among. absurd (contains_none v among))
-          (subst (λ x. IsFlowNode program m x) (sym out) result_flow)
-          (subst (λ x. FlowEdge program m x (node_at program m next)) (sym out) leads)
-          (λ v d r no_write. more (RetVal pc) (node_at program m next) (more (Call pc) (RetVal pc) (subst (λ x. Reaches program m v d x) call r) (no_write_at_call program m pc v) into) (subst (λ x. Writes program m x v → ⊥) out no_write) leads);
+            (record { here = λ v is. absurd (contains_none v is); others = λ v none. ap (λ d. definition_of d v) adds.definitions; sizes = (ap (λ d. length d.locals.items) adds.definitions, ap (λ d. length d.stack.items) adds.definitions) })
+            (at ∙ ap (λ x. Some (node (root labels) x)) (sym out))
+            (λ v wr. (let is = (result_place program m pc height 1 0 v (subst (λ x. Writes program m x v) out wr) has_height call_is.counts call_is.gives).0 in absurd (omega arith)))
+            (λ v among. absurd (contains_none v among))
+            (subst (λ x. IsFlowNode program m x) (sym out) result_flow)
+            (subst (λ x. FlowEdge program m x (node_at program m next)) (sym out) leads)
+            (λ v d r no_write. more (RetVal pc) (node_at program m next) (more (Call pc) (RetVal pc) (subst (λ x. Reaches program m v d x) call r) (no_write_at_call program m pc v) into) (subst (λ x. Writes program m x v → ⊥) out no_write) leads);
         locals = ap (λ d. length d.locals.items) adds.definitions ∙ w.locals;
-        stack = ap (λ d. length d.stack.items) adds.definitions ∙ w.stack
+        stack = ap (λ d. length d.stack.items) adds.definitions ∙ w.stack;
       }
 
   -- the place of a source's result

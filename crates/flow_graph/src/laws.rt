@@ -7,6 +7,7 @@ ghost use Rattle.flow_graph.specs.declared.dep_nodes.Graph.{Graph};
 ghost use Rattle.flow_graph.specs.Graph.{Node};
 ghost use Rattle.flow_graph.specs.Chains.{IsValidChain, HasChain, end_of};
 ghost use Rattle.flow_graph.specs.GraphData.{graph_node, IsDependenceGraph, IsWalk, walk_end, WalksTo, links_of};
+ghost use Rattle.flow_graph.specs.Slices.{HasEdgesInside};
 
 /// A valid chain leads from one node to another exactly where a walk of the graph does.
 pub fn chains_are_walks()
@@ -14,8 +15,7 @@ pub fn chains_are_walks()
         → IsDependenceGraph program labels graph
         → graph_node graph i ≡ Some a → graph_node graph j ≡ Some b
         → HasChain program labels a b ↔ WalksTo graph (j ∷ []) i }
-{
-}
+{}
 
 /// The links of a walk are a valid chain to the node at its end.
 pub fn walks_are_chains()
@@ -25,5 +25,9 @@ pub fn walks_are_chains()
     ensures end { (program : Program) (labels : Labels) (graph : Graph) (i : ℕ) (a : Node) (steps : Items Step)
         → IsDependenceGraph program labels graph → graph_node graph i ≡ Some a → IsWalk graph i steps
         → graph_node graph (walk_end i steps) ≡ Some (end_of a (links_of graph steps)) }
-{
-}
+{}
+
+/// The edges of a dependence graph are between its nodes, as a search for walks wants them.
+pub fn graphs_have_edges_inside()
+    ensures { (program : Program) (labels : Labels) (graph : Graph) → IsDependenceGraph program labels graph → HasEdgesInside graph }
+{}

@@ -6,3 +6,5 @@ pub mod flow;
 pub mod laws;
 pub mod sdg;
 pub mod slicer;
+#[cfg(test)]
+mod tests;

@@ -88,7 +88,12 @@ impl Definitions {
 }
 
 /// Adds a node in the root context.
-fn add_node(nodes: &mut List<NodeName>, method: MethodId, kind: NodeKind, resolved: Option<MethodId>) -> Result<NodeId, Memory>
+fn add_node(
+    nodes: &mut List<NodeName>,
+    method: MethodId,
+    kind: NodeKind,
+    resolved: Option<MethodId>,
+) -> Result<NodeId, Memory>
     requires { length nodes.old < 2 ^ 32 }
     ensures number { IfOk result (λ n. n ≡ length nodes.old) }
     ensures added { OnOk result (nodes.new ≡ nodes.old ++ name_of method kind resolved ∷ []) }
@@ -152,11 +157,23 @@ fn add_uses(
     match operation {
         Operation::Load(k) => add_use(edges, definitions.of(Place::Local(k)), node),
         Operation::Store(_) => {
-            add_use(edges, definitions.of(Place::Stack(height.saturating_sub(1))), node)
+            add_use(
+                edges,
+                definitions.of(Place::Stack(height.saturating_sub(1))),
+                node,
+            )
         }
         Operation::Add | Operation::Subtract => {
-            add_use(edges, definitions.of(Place::Stack(height.saturating_sub(1))), node)?;
-            add_use(edges, definitions.of(Place::Stack(height.saturating_sub(2))), node)
+            add_use(
+                edges,
+                definitions.of(Place::Stack(height.saturating_sub(1))),
+                node,
+            )?;
+            add_use(
+                edges,
+                definitions.of(Place::Stack(height.saturating_sub(2))),
+                node,
+            )
         }
         _ => Ok(()),
     }
@@ -173,7 +190,12 @@ fn add_out(edges: &mut List<Edge>, operation: Operation, node: NodeId) -> Result
 }
 
 /// Adds the edges between a new result of a source and those before it.
-fn add_heap(edges: &mut List<Edge>, results: &[SourceResult], source: MethodId, node: NodeId) -> Result<(), Memory>
+fn add_heap(
+    edges: &mut List<Edge>,
+    results: &[SourceResult],
+    source: MethodId,
+    node: NodeId,
+) -> Result<(), Memory>
     ensures { OnOk result (edges.new ≡ edges.old ++ heap_edges results.now source node) }
 {
     for before in results {
@@ -196,7 +218,12 @@ struct Builder {
 
 impl Builder {
     /// A builder with the nodes that every graph has.
-    fn new(alloc: Global, method: MethodId, max_locals: usize, max_stack: usize) -> Result<Builder, Memory>
+    fn new(
+        alloc: Global,
+        method: MethodId,
+        max_locals: usize,
+        max_stack: usize,
+    ) -> Result<Builder, Memory>
         ensures { IfOk result (λ b. IsStart b method max_locals max_stack) }
     {
         let mut nodes = List::new(alloc);
@@ -231,7 +258,13 @@ impl Builder {
     }
 
     /// Adds an instruction that is no call.
-    fn add_instruction(&mut self, method: MethodId, pc: u32, operation: Operation, height: u16) -> Result<(), Memory>
+    fn add_instruction(
+        &mut self,
+        method: MethodId,
+        pc: u32,
+        operation: Operation,
+        height: u16,
+    ) -> Result<(), Memory>
         requires few { length self.old.nodes < 2 ^ 32 }
         requires places { (v : APlace) → Contains (writes_of operation height) v → HasPlace self.old.definitions v }
         ensures { OnOk result (AddsInstruction self.old self.new method pc operation height) }
@@ -245,7 +278,13 @@ impl Builder {
     }
 
     /// Adds the call of a source.
-    fn add_source(&mut self, method: MethodId, pc: u32, source: MethodId, height: u16) -> Result<(), Memory>
+    fn add_source(
+        &mut self,
+        method: MethodId,
+        pc: u32,
+        source: MethodId,
+        height: u16,
+    ) -> Result<(), Memory>
         requires few { length self.old.nodes + 1 < 2 ^ 32 }
         requires place { HasPlace self.old.definitions (Place.Stack height) }
         ensures { OnOk result (AddsSource self.old self.new method pc source height) }
@@ -261,7 +300,13 @@ impl Builder {
     }
 
     /// Adds the call of a sink.
-    fn add_sink(&mut self, method: MethodId, pc: u32, sink: MethodId, height: u16) -> Result<(), Memory>
+    fn add_sink(
+        &mut self,
+        method: MethodId,
+        pc: u32,
+        sink: MethodId,
+        height: u16,
+    ) -> Result<(), Memory>
         requires few { length self.old.nodes + 2 < 2 ^ 32 }
         ensures { OnOk result (AddsSink self.old self.new method pc sink height) }
     {
@@ -317,7 +362,14 @@ fn is_return(operation: Operation) -> bool
 
 impl Builder {
     /// Adds a call, and gives the height of the stack behind it. Plain code calls sources and sinks alone.
-    fn add_call(&mut self, labels: &Labels, method: MethodId, pc: u32, callee: Option<MethodId>, height: u16) -> Result<u16, Memory>
+    fn add_call(
+        &mut self,
+        labels: &Labels,
+        method: MethodId,
+        pc: u32,
+        callee: Option<MethodId>,
+        height: u16,
+    ) -> Result<u16, Memory>
         requires few { length self.old.nodes + 2 < 2 ^ 32 }
         requires place { (s : ℕ) → callee ≡ Some s → is_source (label_of labels.now s) ≡ true
             → HasPlace self.old.definitions (Place.Stack height) × (height + 1 < 2 ^ 16) }

@@ -1,4 +1,4 @@
-use Rattle.std.proofs.Common.{◌≡◌, ◌==◌, ◌+◌, ◌++◌, ◌∷◌, [], take, cond, true, false, sym, ap, ◌∙◌, arith, append_assoc}
+use Rattle.std.proofs.Common.{◌≡◌, ◌==◌, ◌+◌, ◌++◌, ◌∷◌, [], take, cond, true, false, sym, ap, ◌∙◌, arith}
 use Rattle.std.proofs.lemmas.List.{take_more, append-nil}
 use Rattle.std.proofs.lemmas.Bool.{cond-true, cond-false}
 use Rattle.flow_graph.specs.declared.dep_nodes.EdgeKind.TheVariants.{Heap}
@@ -21,9 +21,10 @@ loop-before-preserved c =
     let more : take (i + 1) rs ≡ take i rs ++ r ∷ [] = take_more rs i r (omega arith) ∙ ap (λ y. take i rs ++ y ∷ []) (sym c.before-item.is) in
     let grown : heap_edges (take (i + 1) rs) s n ≡ done ++ cond (r.source == s) both [] = ap (λ t. heap_edges t s n) more ∙ heap_edges-push (take i rs) r s n in
     elim c.if-eq.branch [
-      then-eq+in_ok-add_edge+in_ok-add_edge-2 w ↦
-        let same : (r.source == s) ≡ true = sym (and_true (r.source == s)) ∙ sym c.eq.ensures ∙ w.if-eq.true in
-        w.edges-is ∙ append_two w.add_edge-then-eq.new.edges w.add_edge.new.edges c.loop-before.edges old done (edge r.node Heap n) (edge n Heap r.node) w.in_ok-add_edge-2.ensures w.in_ok-add_edge.ensures c.loop-before.invariant ∙ sym (ap (λ t. old ++ t) (grown ∙ ap (λ t. done ++ t) (cond-true (r.source == s) both [] same)))
-    | else-eq w ↦
-        let other : (r.source == s) ≡ false = sym (and_true (r.source == s)) ∙ sym c.eq.ensures ∙ w.if-eq.false in
-        w.edges-is ∙ c.loop-before.invariant ∙ sym (ap (λ t. old ++ t) (grown ∙ ap (λ t. done ++ t) (cond-false (r.source == s) both [] other) ∙ append-nil done)) ]
+      | then-eq+in_ok-add_edge+in_ok-add_edge-2 w ↦
+          let same : (r.source == s) ≡ true = sym (and_true (r.source == s)) ∙ sym c.eq.ensures ∙ w.if-eq.true in
+          w.edges-is ∙ append_two w.add_edge-then-eq.new.edges w.add_edge.new.edges c.loop-before.edges old done (edge r.node Heap n) (edge n Heap r.node) w.in_ok-add_edge-2.ensures w.in_ok-add_edge.ensures c.loop-before.invariant ∙ sym (ap (λ t. old ++ t) (grown ∙ ap (λ t. done ++ t) (cond-true (r.source == s) both [] same)))
+      | else-eq w ↦
+          let other : (r.source == s) ≡ false = sym (and_true (r.source == s)) ∙ sym c.eq.ensures ∙ w.if-eq.false in
+          w.edges-is ∙ c.loop-before.invariant ∙ sym (ap (λ t. old ++ t) (grown ∙ ap (λ t. done ++ t) (cond-false (r.source == s) both [] other) ∙ append-nil done))
+    ]

@@ -1,9 +1,9 @@
-use Rattle.std.proofs.Common.{◌≡◌, ◌<◌, ◌^◌, ◌⊎◌, inl, inr, Some, Bool, true, false, sym, ap, subst, ◌∙◌, arith}
+use Rattle.std.proofs.Common.{◌≡◌, inl, inr, Some, true, false, sym, subst, ◌∙◌, arith}
 use Rattle.jo_prog.specs.Program.{operation_at, callee_at}
 use Rattle.jo_prog.proofs.Decoding.{operation_at-next}
-use Rattle.flow_graph.specs.Building.{IsStart, is_call, is_return, height_after}
+use Rattle.flow_graph.specs.Building.{IsStart, is_call, is_return}
 use Rattle.flow_graph.specs.GraphData.{IsDependenceGraph}
-use Rattle.flow_graph.proofs.PlainWalk.{IsWalked, walked_start, walked_all_places, walked_fits, walked_instruction, walked_return, walked_source, walked_sink, walked_result, walked_callee, walked_some, return_is, no_return_from, walked_next_small, call_no_return}
+use Rattle.flow_graph.proofs.PlainWalk.{IsWalked, walked_start, walked_all_places, walked_instruction, walked_return, walked_source, walked_sink, walked_result, walked_callee, return_is, no_return_from, walked_next_small, call_no_return}
 use Rattle.flow_graph.proofs.sdg.build.Goals as goal
 
 pub loop-operation-init : goal.loop-operation-init
@@ -12,8 +12,8 @@ loop-operation-init c =
     let short = c.requires.short plain.code plain.found in
     let sizes = c.sizes_of-max_locals.ensures plain.code plain.found in
     walked_start c.args.program.now c.args.labels.now c.in_ok-builder.builder plain short.0 short.1
-      (subst (λ n. IsStart c.in_ok-builder.builder c.args.labels.now.entry n plain.code.max_stack) sizes.0
-        (subst (λ n. IsStart c.in_ok-builder.builder c.args.labels.now.entry c.sizes_of-max_locals.result.0 n) sizes.1 c.in_ok-builder.ensures))
+    (subst (λ n. IsStart c.in_ok-builder.builder c.args.labels.now.entry n plain.code.max_stack) sizes.0
+    (subst (λ n. IsStart c.in_ok-builder.builder c.args.labels.now.entry c.sizes_of-max_locals.result.0 n) sizes.1 c.in_ok-builder.ensures))
 
 pub add_call-requires-clause-place : goal.add_call-requires-clause-place
 add_call-requires-clause-place c = λ s named source.
@@ -44,7 +44,7 @@ loop-operation-preserved c =
     let plain : is_call c.in-Some.operation ≡ false = cc in
     let other : is_return c.in-Some.operation ≡ false = cc in
     subst (λ h. IsWalked c.args.program.now c.args.labels.now c.in-Some.next h c.add_instruction.new.self) (sym c.height_after-height.ensures)
-      (walked_instruction c.args.program.now c.args.labels.now w.pc c.in-Some.next w.height c.in-Some.operation w.builder w.invariant found c.add_instruction.new.self plain (no_return_from c.in-Some.operation other) c.in_ok-add_instruction.ensures)
+    (walked_instruction c.args.program.now c.args.labels.now w.pc c.in-Some.next w.height c.in-Some.operation w.builder w.invariant found c.add_instruction.new.self plain (no_return_from c.in-Some.operation other) c.in_ok-add_instruction.ensures)
 
 pub loop-operation-smaller : goal.loop-operation-smaller
 loop-operation-smaller c =
@@ -64,14 +64,15 @@ loop-operation-preserved-in_ok-height c =
     let callee = walked_callee c.args.program.now c.args.labels.now w.pc c.in-Some.next w.height c.in-Some.operation w.builder w.invariant found call in
     let named : c.callee_at-callee.result ≡ Some callee.0 = c.callee_at-callee.ensures ∙ callee.1 in
     elim callee.2 [
-      inl source ↦
-        let adds = c.in_ok-height.ensures.source callee.0 named source in
-        subst (λ h. IsWalked c.args.program.now c.args.labels.now c.in-Some.next h c.add_call.new.self) (sym adds.1)
+      | inl source ↦
+          let adds = c.in_ok-height.ensures.source callee.0 named source in
+          subst (λ h. IsWalked c.args.program.now c.args.labels.now c.in-Some.next h c.add_call.new.self) (sym adds.1)
           (walked_source c.args.program.now c.args.labels.now w.pc c.in-Some.next w.height c.in-Some.operation w.builder w.invariant found c.add_call.new.self callee.0 call callee.1 source adds.0)
-    | inr sink ↦
-        let adds = c.in_ok-height.ensures.sink callee.0 named sink in
-        subst (λ h. IsWalked c.args.program.now c.args.labels.now c.in-Some.next h c.add_call.new.self) (sym adds.1)
-          (walked_sink c.args.program.now c.args.labels.now w.pc c.in-Some.next w.height c.in-Some.operation w.builder w.invariant found c.add_call.new.self callee.0 call callee.1 sink adds.0) ]
+      | inr sink ↦
+          let adds = c.in_ok-height.ensures.sink callee.0 named sink in
+          subst (λ h. IsWalked c.args.program.now c.args.labels.now c.in-Some.next h c.add_call.new.self) (sym adds.1)
+          (walked_sink c.args.program.now c.args.labels.now w.pc c.in-Some.next w.height c.in-Some.operation w.builder w.invariant found c.add_call.new.self callee.0 call callee.1 sink adds.0)
+    ]
 
 pub loop-operation-smaller-in_ok-height : goal.loop-operation-smaller-in_ok-height
 loop-operation-smaller-in_ok-height c =
