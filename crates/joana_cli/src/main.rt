@@ -8,6 +8,8 @@ mod jo_policy;
 mod low_run;
 mod spelling;
 mod status;
+#[cfg(test)]
+mod tests;
 mod top;
 mod words;
 
