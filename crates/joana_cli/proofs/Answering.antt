@@ -1,12 +1,11 @@
 -- From what the parts of the top call say to what its answer says.
 use Rattle.std.proofs.Common.{◌≡◌, ◌⊎◌, inl, inr, ℕ, List, [], ◌∷◌, Option, Some, None, IfSome, IsSome, Ok, Err, subst, sym, ap, ◌∙◌, refl}
 use Rattle.std.specs.Str.{IsUtf8}
-use Rattle.std.specs.List.{AllByRecursion}
 use Rattle.jo_prog.specs.declared.program.Program.{Program}
 use Rattle.jo_prog.specs.declared.labels.Labels.{Labels}
 use Rattle.joana_cli.specs.Words.{CheckNames, paths_of, accepted_text}
 use Rattle.joana_cli.specs.FirstForm.{Held, AreTold, IsInput, IsFirstForm}
-use Rattle.joana_cli.specs.Outcome.{FilesAfter, OutAfter, OutAfterText, SaysOf, WordsSay, TookAll, TookPart, IsAnswerText, Reports}
+use Rattle.joana_cli.specs.Outcome.{FilesAfter, OutAfter, OutAfterText, SaysOf, WordsSay, TookAll, TookPart, IsReportText, Reports}
 use Rattle.joana_cli.specs.Decision.{Decides, OutAfterDecision}
 use Rattle.joana_cli.specs.Input.{Holds, ReadsInput}
 use Rattle.joana_cli.specs.declared.input.InputFiles.{InputFiles}
@@ -71,8 +70,8 @@ module _ (held : Held) (names : CheckNames) (old new : ℕ) (failed : List ℕ) 
 
 -- ---- the output
 
-pub report_text : (program : Program) (labels : Labels) (text : List ℕ) → Reports program labels text → IsAnswerText text
-report_text program labels text r = inr (program, labels, r.observer, r.from, r.links, r.text_is)
+pub report_text : (program : Program) (labels : Labels) (text : List ℕ) → Reports program labels text → IsReportText text
+report_text program labels text r = (program, labels, r.observer, r.from, r.links, r.text_is)
 
 pub decided_output : (class policy : List ℕ) (decision : Decision) (result : Status) (given given' : Option (List ℕ)) (faults faults' : ℕ) → Decides class policy decision
     → OutAfterDecision decision result given given' faults faults' → OutAfter result given given' faults faults'
@@ -84,7 +83,7 @@ decided_output class policy Accepted result g g' f f' d h =
 decided_output class policy (RefusedBy text) result g g' f f' d h =
     let P : Status → Type 0 = λ r. OutAfter r g g' f f' in
     let is_text = report_text d.0 d.1 text.items d.3 in
-    elim (text_put text.items Refused result g g' f f' h) [ inl e ↦ subst P (sym e.0) (text.items, is_text, e.1) | inr e ↦ subst P (sym e.0) (text.items, is_text, e.1) ]
+    elim (text_put text.items Refused result g g' f f' h) [ inl e ↦ subst P (sym e.0) (text.items, inr is_text, e.1) | inr e ↦ subst P (sym e.0) (text.items, is_text, e.1) ]
 
 -- ---- the verdict
 
@@ -97,7 +96,7 @@ pub says_unread : (held : Held) (names : CheckNames) (result : Status) (given gi
     → (result ≡ Input NotBuilt) ⊎ (result ≡ Outside Notes) → SaysOf held (Some names) result given given'
 says_unread held names result g g' r h =
     let P : Status → Type 0 = λ s. SaysOf held (Some names) s g g' in
-    elim h [ inl e ↦ subst P (sym e) (λ told program labels i. unread_form held names program labels r i) | inr e ↦ subst P (sym e) (λ told. tt) ]
+    elim h [ inl e ↦ subst P (sym e) (λ told program labels i. unread_form held names program labels r i) | inr e ↦ subst P (sym e) (λ told program labels i. unread_form held names program labels r i) ]
 
 module _ (held : Held) (names : CheckNames) (input : InputFiles) (reads : ReadsInput held names (Ok input)) where
   -- the files' form is that of the bytes that were read
@@ -112,7 +111,6 @@ module _ (held : Held) (names : CheckNames) (input : InputFiles) (reads : ReadsI
   pub form_told : (program : Program) (labels : Labels) → AreTold held names → IsFirstForm input.class.items input.policy.items program labels → IsInput held names program labels
   form_told program labels told form =
       let list = of_held (λ list. IsUtf8 list × ((path : List ℕ) × (paths_of list ≡ path ∷ []) × Holds held path input.class.items)) (held names.classes) told.list reads.1 told.list_held in
-      let each = subst (λ (ps : List (List ℕ)). AllByRecursion (λ path. IsSome (held path)) ps) list.1.1 told.classes in
       record {
         list = told.list;
         list_held = told.list_held;
@@ -120,7 +118,7 @@ module _ (held : Held) (names : CheckNames) (input : InputFiles) (reads : ReadsI
         path = list.1.0;
         one_path = list.1.1;
         class = input.class.items;
-        class_held = told_bytes (held list.1.0) input.class.items list.1.2 each.0;
+        class_held = told_bytes (held list.1.0) input.class.items list.1.2 (told.class list.1.0 list.1.1);
         policy = input.policy.items;
         policy_held = told_bytes (held names.policy) input.policy.items reads.0 told.policy;
         form = form;
@@ -130,16 +128,16 @@ module _ (held : Held) (names : CheckNames) (input : InputFiles) (reads : ReadsI
       → OutAfterDecision decision result given given' faults faults' → SaysOf held (Some names) result given given'
   decided_verdict NoForm result g g' f f' d h =
       let P : Status → Type 0 = λ s. SaysOf held (Some names) s g g' in
-      elim h.0 [ inl e ↦ subst P (sym e) (λ told program labels i. d program labels (form_read program labels i)) | inr e ↦ subst P (sym e) (λ told. tt) ]
+      elim h.0 [ inl e ↦ subst P (sym e) (λ told program labels i. d program labels (form_read program labels i)) | inr e ↦ subst P (sym e) (λ told program labels i. d program labels (form_read program labels i)) ]
   decided_verdict Accepted result g g' f f' d h =
       let P : Status → Type 0 = λ s. SaysOf held (Some names) s g g' in
       elim (text_put accepted_text Done result g g' f f' h) [
-        | inl e ↦ subst P (sym e.0) (λ told. tt)
+        | inl e ↦ subst P (sym e.0) (λ told. (d.0, d.1, form_told d.0 d.1 told d.2, inl (d.3, e.1.given)))
         | inr e ↦ subst P (sym e.0) (λ told. (d.0, d.1, form_told d.0 d.1 told d.2, d.3))
       ]
   decided_verdict (RefusedBy text) result g g' f f' d h =
       let P : Status → Type 0 = λ s. SaysOf held (Some names) s g g' in
       elim (text_put text.items Refused result g g' f f' h) [
-        | inl e ↦ subst P (sym e.0) (λ told. tt)
+        | inl e ↦ subst P (sym e.0) (λ told. (d.0, d.1, form_told d.0 d.1 told d.2, inr (text.items, d.3, e.1.given)))
         | inr e ↦ subst P (sym e.0) (λ told. (d.0, d.1, text.items, form_told d.0 d.1 told d.2, d.3, e.1.given))
       ]

@@ -1,6 +1,6 @@
 -- The files that are built: one class in one straight line, with a small policy.
 use Rattle.std.specs.Prelude.{◌≡◌, ◌⊎◌, ℕ, Bool, true, false, List, [], ◌∷◌, Option, Some, IsSome}
-use Rattle.std.specs.List.{list_any, AllByRecursion}
+use Rattle.std.specs.List.{list_any}
 use Rattle.std.specs.Str.{IsUtf8, bytes_eq}
 use Rattle.toml.specs.Data.{Members}
 use Rattle.toml.specs.Parse.{parse_document}
@@ -41,12 +41,12 @@ pub record IsFirstForm (class policy : List ℕ) (program : Program) (labels : L
 abbrev pub Held : Type 0
 Held = List ℕ → Option (List ℕ)
 
--- the files tell the policy, the class list and each class file
+-- the files tell the policy, the class list and, where this has one path, the class file
 pub record AreTold (held : Held) (names : CheckNames) : Type 0 where
   pub policy : IsSome (held names.policy)
   pub list : List ℕ
   pub list_held : held names.classes ≡ Some list
-  pub classes : AllByRecursion (λ path. IsSome (held path)) (paths_of list)
+  pub class : (path : List ℕ) → paths_of list ≡ path ∷ [] → IsSome (held path)
 
 -- the files are in the first form: one path in the list, and its class and the policy
 pub record IsInput (held : Held) (names : CheckNames) (program : Program) (labels : Labels) : Type 0 where

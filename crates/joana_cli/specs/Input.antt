@@ -31,6 +31,10 @@ AfterReadsBy IsName (Err Memory) old new failed = old ≤ new
 abbrev pub AfterPathReads : {T : Type 0} → List (List ℕ) → Result T Stop → ℕ → ℕ → List ℕ → Type 0
 AfterPathReads paths result old new failed = AfterReadsBy (λ number name. (k : ℕ) × (number ≡ k + 2) × (slice_get paths k ≡ Some name)) result old new failed
 
+-- the reads of the paths of a list, which is text
+abbrev pub AfterListReads : {T : Type 0} → List ℕ → Result T Stop → ℕ → ℕ → List ℕ → Type 0
+AfterListReads list result old new failed = AfterReadsBy (λ number name. IsUtf8 list × ((k : ℕ) × (number ≡ k + 2) × (slice_get (paths_of list) k ≡ Some name))) result old new failed
+
 abbrev pub AfterReads : {T : Type 0} → Held → CheckNames → Result T Stop → ℕ → ℕ → List ℕ → Type 0
 AfterReads held names result old new failed = AfterReadsBy (IsReadName held names) result old new failed
 

@@ -1,5 +1,6 @@
 -- What each answer of a run says: of the files, of what was put, and of the program.
 use Rattle.std.specs.Prelude.{◌≡◌, ◌⊎◌, ℕ, zero, suc, ◌<◌, ◌≤◌, List, Option, Some, None, Contains, IfSome, slice_get}
+use Rattle.std.specs.Str.{IsUtf8}
 use Rattle.jo_io.specs.Counts.{Rose}
 use Rattle.jo_io.specs.Sink.{Extends, ExtendsByPrefix}
 use Rattle.jo_prog.specs.declared.program.Program.{Program}
@@ -21,7 +22,7 @@ use Rattle.joana_cli.specs.declared.status.OutsideFault.TheVariants.{File, Outpu
 abbrev pub IsReadName : Held → CheckNames → ℕ → List ℕ → Type 0
 IsReadName held names zero name = name ≡ names.policy
 IsReadName held names (suc zero) name = name ≡ names.classes
-IsReadName held names (suc (suc k)) name = IfSome (held names.classes) (λ list. slice_get (paths_of list) k ≡ Some name)
+IsReadName held names (suc (suc k)) name = IfSome (held names.classes) (λ list. IsUtf8 list × (slice_get (paths_of list) k ≡ Some name))
 
 -- the read with that number of these words failed, and the files say so
 abbrev pub ReadFailed : Held → Option CheckNames → ℕ → List ℕ → Type 0
@@ -55,26 +56,30 @@ pub record TookNothing (old_given new_given : Option (List ℕ)) (old_faults new
 abbrev pub Tried : Option (List ℕ) → Option (List ℕ) → ℕ → ℕ → List ℕ → Type 0
 Tried old_given new_given old_faults new_faults text = TookAll old_given new_given old_faults new_faults text ⊎ TookPart old_given new_given old_faults new_faults text
 
--- what the notes were given with each answer
-abbrev pub NotesAfter : Status → Option (List ℕ) → Option (List ℕ) → ℕ → ℕ → List ℕ → Type 0
-NotesAfter Words old_given new_given old new failed = TookAll old_given new_given old new words_line
-NotesAfter (Input NotBuilt) old_given new_given old new failed = TookAll old_given new_given old new not_built_line
-NotesAfter (Outside (File number)) old_given new_given old new failed = Tried old_given new_given old new (file_line failed)
-NotesAfter (Outside Output) old_given new_given old new failed = Tried old_given new_given old new output_line
-NotesAfter (Outside Notes) old_given new_given old new failed = TookPart old_given new_given old new words_line ⊎ TookPart old_given new_given old new not_built_line
-NotesAfter (Limit kind) old_given new_given old new failed = ⊥
-NotesAfter _ old_given new_given old new failed = TookNothing old_given new_given old new
+-- the line of words that are no command, or of files in no form that is built
+abbrev pub refusal_line : Option CheckNames → List ℕ
+refusal_line None = words_line
+refusal_line (Some names) = not_built_line
 
--- a text that the program may print as its answer
-abbrev pub IsAnswerText : List ℕ → Type 0
-IsAnswerText text = (text ≡ accepted_text) ⊎ ((program : Program) × (labels : Labels) × (observer : ℕ) × (from : Node) × (links : List Link)
-    × (text ≡ chain_text program labels observer from links))
+-- what the notes were given with each answer
+abbrev pub NotesAfter : Option CheckNames → Status → Option (List ℕ) → Option (List ℕ) → ℕ → ℕ → List ℕ → Type 0
+NotesAfter names Words old_given new_given old new failed = TookAll old_given new_given old new words_line
+NotesAfter names (Input NotBuilt) old_given new_given old new failed = TookAll old_given new_given old new not_built_line
+NotesAfter names (Outside (File number)) old_given new_given old new failed = Tried old_given new_given old new (file_line failed)
+NotesAfter names (Outside Output) old_given new_given old new failed = Tried old_given new_given old new output_line
+NotesAfter names (Outside Notes) old_given new_given old new failed = TookPart old_given new_given old new (refusal_line names)
+NotesAfter names (Limit kind) old_given new_given old new failed = ⊥
+NotesAfter names _ old_given new_given old new failed = TookNothing old_given new_given old new
+
+-- a text of a report
+abbrev pub IsReportText : List ℕ → Type 0
+IsReportText text = (program : Program) × (labels : Labels) × (observer : ℕ) × (from : Node) × (links : List Link) × (text ≡ chain_text program labels observer from links)
 
 -- what the output was given with each answer: the whole text, a part of it where its put failed, nothing otherwise
 abbrev pub OutAfter : Status → Option (List ℕ) → Option (List ℕ) → ℕ → ℕ → Type 0
 OutAfter Done old_given new_given old new = TookAll old_given new_given old new accepted_text
-OutAfter Refused old_given new_given old new = (text : List ℕ) × IsAnswerText text × TookAll old_given new_given old new text
-OutAfter (Outside Output) old_given new_given old new = (text : List ℕ) × IsAnswerText text × TookPart old_given new_given old new text
+OutAfter Refused old_given new_given old new = (text : List ℕ) × IsReportText text × TookAll old_given new_given old new text
+OutAfter (Outside Output) old_given new_given old new = (text : List ℕ) × ((text ≡ accepted_text) ⊎ IsReportText text) × TookPart old_given new_given old new text
 OutAfter _ old_given new_given old new = TookNothing old_given new_given old new
 
 -- what the output was given where the answer was to be this text with this status
@@ -105,6 +110,9 @@ Says held names Done old_given new_given = (program : Program) × (labels : Labe
 Says held names Refused old_given new_given = (program : Program) × (labels : Labels) × (text : List ℕ) × IsInput held names program labels
     × Reports program labels text × Extends old_given new_given text
 Says held names (Input NotBuilt) old_given new_given = (program : Program) (labels : Labels) → IsInput held names program labels → ⊥
+Says held names (Outside Notes) old_given new_given = (program : Program) (labels : Labels) → IsInput held names program labels → ⊥
+Says held names (Outside Output) old_given new_given = (program : Program) × (labels : Labels) × IsInput held names program labels
+    × ((CleanForAll program labels × ExtendsByPrefix old_given new_given accepted_text) ⊎ ((text : List ℕ) × Reports program labels text × ExtendsByPrefix old_given new_given text))
 Says held names Words old_given new_given = ⊥
 Says held names (Limit kind) old_given new_given = ⊥
 Says held names _ old_given new_given = Unit {0}

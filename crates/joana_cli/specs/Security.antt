@@ -1,19 +1,21 @@
 -- Security of a program for its policy: termination-insensitive observational determinism with releases (this project's
 -- own; low-security observational determinism is after Giffhorn and Snelting 2015).
-use Rattle.std.specs.Prelude.{◌≡◌, ◌≢◌, ◌⊎◌, ℕ, Bool, true, false, List, [], ◌∷◌, Contains}
+use Rattle.std.specs.Prelude.{◌≡◌, ◌≢◌, ◌⊎◌, ℕ, Bool, true, false, List, [], ◌∷◌, Contains, Option, Some, None}
 use Rattle.jo_prog.specs.declared.program.Program.{Program}
+use Rattle.jo_prog.specs.declared.labels.Label.{Label}
+use Rattle.jo_prog.specs.declared.labels.Label.TheVariants.{Source}
 use Rattle.jo_prog.specs.declared.labels.Labels.{Labels}
 use Rattle.jo_prog.specs.declared.runs.SourceInput.{SourceInput}
 use Rattle.jo_prog.specs.declared.runs.Event.{Event}
 use Rattle.jo_prog.specs.declared.runs.Event.TheVariants.{Release as Released}
 use Rattle.jo_prog.specs.declared.runs.Trace.{Trace}
-use Rattle.jo_prog.specs.Labels.{label_of, brings, lets_out, reaches}
+use Rattle.jo_prog.specs.Labels.{label_of, lets_out, reaches, misses}
 use Rattle.jo_prog.specs.Machine.{input_at}
 use Rattle.jo_prog.specs.Runs.{run, seen}
 
 -- releases of one method with unequal values, and what it lets out doesn't flow to the observer
 abbrev pub DifferInRelease : Labels → ℕ → Event → Event → Type 0
-DifferInRelease labels observer (Released m v) (Released n w) = (m ≡ n) × (v ≢ w) × (reaches labels observer (lets_out (label_of labels m)) ≡ false)
+DifferInRelease labels observer (Released m v) (Released n w) = (m ≡ n) × (v ≢ w) × (misses labels observer (lets_out (label_of labels m)) ≡ true)
 DifferInRelease labels observer _ _ = ⊥
 
 -- What one observer sees of two runs agrees. One list is empty, and both are if both runs ended; or the heads are equal
@@ -24,9 +26,14 @@ Agree labels observer [] ended (y ∷ ys) other_ended = ended ≡ true → other
 Agree labels observer (x ∷ xs) ended [] other_ended = ended ≡ true → other_ended ≡ true → ⊥
 Agree labels observer (x ∷ xs) ended (y ∷ ys) other_ended = ((x ≡ y) × Agree labels observer xs ended ys other_ended) ⊎ DifferInRelease labels observer x y
 
+-- the level of a source
+abbrev pub source_level : Option Label → Option ℕ
+source_level (Some (Source level)) = Some level
+source_level _ = None
+
 -- the inputs give equal ints on each source whose level flows to the observer, each list continued by zeros
 abbrev pub AgreeOnInputs : Labels → ℕ → List SourceInput → List SourceInput → Type 0
-AgreeOnInputs labels observer inputs others = (source : ℕ) → reaches labels observer (brings (label_of labels source)) ≡ true
+AgreeOnInputs labels observer inputs others = (source : ℕ) → reaches labels observer (source_level (label_of labels source)) ≡ true
     → (place : ℕ) → input_at inputs source place ≡ input_at others source place
 
 -- what an observer sees of two runs agrees

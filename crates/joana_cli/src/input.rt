@@ -1,7 +1,7 @@
 //! The files of a run, read in their order: the policy, the class list, each class file of the list.
 ghost use Rattle.std.specs.Prelude.{◌≡◌, ◌+◌, ◌-◌, ◌^◌, ◌<◌, ◌≤◌, ℕ, List, map, length, IfOk, IfErr, OnOk, Some};
-ghost use Rattle.joana_cli.specs.Words.{names_of, paths_of};
-ghost use Rattle.joana_cli.specs.Input.{AfterReads, AfterPathReads, ReadsClassOf, ReadsInput, StopsAt};
+ghost use Rattle.joana_cli.specs.Words.{names_of};
+ghost use Rattle.joana_cli.specs.Input.{AfterReads, AfterListReads, AfterPathReads, ReadsClassOf, ReadsInput, StopsAt};
 
 use crate::words::{self, CheckNames};
 use jo_io::{FileFault, Files};
@@ -69,7 +69,7 @@ fn read_each<F: Files>(alloc: Global, files: &mut F, paths: &[&str]) -> Result<(
 
 /// Reads the class file that is the list's only path, or every path of another list, which isn't built.
 fn read_class_file<F: Files>(alloc: Global, files: &mut F, list: &[u8]) -> Result<Vec<u8>, Stop>
-    ensures after { AfterPathReads (paths_of list.now) result (F.faults files.old) (F.faults files.new) (F.failed files.new) }
+    ensures after { AfterListReads list.now result (F.faults files.old) (F.faults files.new) (F.failed files.new) }
     ensures read { ReadsClassOf (F.held files.old) list.now result }
 {
     let paths = match words::paths(alloc, list)? {

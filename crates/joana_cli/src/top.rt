@@ -1,6 +1,6 @@
 //! The top call: words in, files read, one text out, and a status.
-ghost use Rattle.std.specs.Prelude.{◌≡◌, ◌⊎◌, List, ℕ, map, string_bytes};
-ghost use Rattle.joana_cli.specs.Words.{check_names};
+ghost use Rattle.std.specs.Prelude.{◌≡◌, ◌⊎◌, List, ℕ, None, Some, map, string_bytes};
+ghost use Rattle.joana_cli.specs.Words.{check_names, CheckNames as Names};
 ghost use Rattle.joana_cli.specs.Outcome.{FilesAfter, NotesAfter, OutAfter, SaysOf, WordsSay, OutAfterText, IsRefusal, Tried};
 ghost use Rattle.joana_cli.specs.Decision.{OutAfterDecision};
 ghost use Rattle.joana_cli.specs.declared.status.Status.TheVariants.{Words, Input, Outside, Done, Refused};
@@ -27,7 +27,7 @@ fn try_line<N: Sink>(notes: &mut N, line: &[u8])
 /// The status of words that are no command.
 fn no_words<N: Sink>(notes: &mut N) -> Status
     ensures words { WordsSay None result }
-    ensures notes { (failed : List ℕ) → NotesAfter result (N.given notes.old) (N.given notes.new) (N.faults notes.old) (N.faults notes.new) failed }
+    ensures notes { (failed : List ℕ) → NotesAfter None result (N.given notes.old) (N.given notes.new) (N.faults notes.old) (N.faults notes.new) failed }
     ensures kind { IsRefusal result }
 {
     match notes.put(b"joana: words\n") {
@@ -38,7 +38,7 @@ fn no_words<N: Sink>(notes: &mut N) -> Status
 
 /// The status of files that are in no form that is built.
 fn not_built<N: Sink>(notes: &mut N) -> Status
-    ensures notes { (failed : List ℕ) → NotesAfter result (N.given notes.old) (N.given notes.new) (N.faults notes.old) (N.faults notes.new) failed }
+    ensures notes { (names : Names) (failed : List ℕ) → NotesAfter (Some names) result (N.given notes.old) (N.given notes.new) (N.faults notes.old) (N.faults notes.new) failed }
     ensures kind { (result ≡ Input NotBuilt) ⊎ (result ≡ Outside Notes) }
 {
     match notes.put(b"joana: input NotBuilt\n") {
@@ -49,7 +49,7 @@ fn not_built<N: Sink>(notes: &mut N) -> Status
 
 /// The status of a read that failed. A line to the notes is tried.
 fn unread<N: Sink>(alloc: Global, notes: &mut N, unread: &Unread) -> Status
-    ensures notes { NotesAfter result (N.given notes.old) (N.given notes.new) (N.faults notes.old) (N.faults notes.new) (string_bytes unread.now.name) }
+    ensures notes { (names : Names) → NotesAfter (Some names) result (N.given notes.old) (N.given notes.new) (N.faults notes.old) (N.faults notes.new) (string_bytes unread.now.name) }
     ensures kind { (result ≡ Outside (File unread.now.number)) ⊎ (result ≡ Status.Memory) }
 {
     let name = unread.name.as_str();
@@ -66,7 +66,7 @@ fn unread<N: Sink>(alloc: Global, notes: &mut N, unread: &Unread) -> Status
 fn answer<S: Sink, N: Sink>(out: &mut S, notes: &mut N, text: &[u8], status: Status) -> Status
     requires { (status ≡ Done) ⊎ (status ≡ Refused) }
     ensures output { OutAfterText text.now status result (S.given out.old) (S.given out.new) (S.faults out.old) (S.faults out.new) }
-    ensures notes { (failed : List ℕ) → NotesAfter result (N.given notes.old) (N.given notes.new) (N.faults notes.old) (N.faults notes.new) failed }
+    ensures notes { (names : Names) (failed : List ℕ) → NotesAfter (Some names) result (N.given notes.old) (N.given notes.new) (N.faults notes.old) (N.faults notes.new) failed }
 {
     match out.put(text) {
         Ok(()) => status,
@@ -80,7 +80,7 @@ fn answer<S: Sink, N: Sink>(out: &mut S, notes: &mut N, text: &[u8], status: Sta
 /// Answers a decision.
 fn answer_decision<S: Sink, N: Sink>(out: &mut S, notes: &mut N, decision: &Decision) -> Status
     ensures output { OutAfterDecision decision.now result (S.given out.old) (S.given out.new) (S.faults out.old) (S.faults out.new) }
-    ensures notes { (failed : List ℕ) → NotesAfter result (N.given notes.old) (N.given notes.new) (N.faults notes.old) (N.faults notes.new) failed }
+    ensures notes { (names : Names) (failed : List ℕ) → NotesAfter (Some names) result (N.given notes.old) (N.given notes.new) (N.faults notes.old) (N.faults notes.new) failed }
 {
     match decision {
         Decision::NotBuilt => not_built(notes),
@@ -106,7 +106,7 @@ pub fn joana<F: Files, S: Sink, N: Sink>(
     ensures files { FilesAfter (F.held files.old) (check_names (map string_bytes words.now)) result (F.faults files.old) (F.faults files.new) (F.failed files.new) }
     // What the two sinks were given.
     ensures output { OutAfter result (S.given out.old) (S.given out.new) (S.faults out.old) (S.faults out.new) }
-    ensures notes { NotesAfter result (N.given notes.old) (N.given notes.new) (N.faults notes.old) (N.faults notes.new) (F.failed files.new) }
+    ensures notes { NotesAfter (check_names (map string_bytes words.now)) result (N.given notes.old) (N.given notes.new) (N.faults notes.old) (N.faults notes.new) (F.failed files.new) }
     // Where the files tell their bytes: the verdict on the program that they make.
     ensures verdict { SaysOf (F.held files.old) (check_names (map string_bytes words.now)) result (S.given out.old) (S.given out.new) }
 {

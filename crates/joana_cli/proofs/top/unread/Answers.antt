@@ -4,7 +4,7 @@ use Rattle.joana_cli.proofs.top.unread.Goals as goal
 
 -- the line that was tried is the one that was formatted
 pub returns-in-Ok-clause-notes : goal.returns-in-Ok-clause-notes
-returns-in-Ok-clause-notes g c =
+returns-in-Ok-clause-notes g c names =
     let P : List ℕ → Type 0 = Tried (g.N.Sink.given c.args.notes.now) (g.N.Sink.given c.try_line.new.notes) (g.N.Sink.faults c.args.notes.now) (g.N.Sink.faults c.try_line.new.notes) in
     let line = c.as_bytes.ensures.value ∙ c.in-Ok.ensures.ok in
     rw (← c.as_str-name.ensures.value) (subst P line c.try_line.ensures)
