@@ -5,6 +5,7 @@ mod chain_report;
 mod check;
 mod input;
 mod jo_policy;
+mod laws;
 mod low_run;
 mod spelling;
 mod status;
