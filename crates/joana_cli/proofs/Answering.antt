@@ -6,6 +6,7 @@ use Rattle.jo_prog.specs.declared.labels.Labels.{Labels}
 use Rattle.joana_cli.specs.Words.{CheckNames, paths_of, accepted_text}
 use Rattle.joana_cli.specs.FirstForm.{Held, AreTold, IsInput, IsFirstForm}
 use Rattle.joana_cli.specs.Outcome.{FilesAfter, OutAfter, OutAfterText, SaysOf, WordsSay, TookAll, TookPart, IsReportText, Reports}
+use Rattle.joana_cli.proofs.CleanRuns.{clean_secure}
 use Rattle.joana_cli.specs.Decision.{Decides, OutAfterDecision}
 use Rattle.joana_cli.specs.Input.{Holds, ReadsInput}
 use Rattle.joana_cli.specs.declared.input.InputFiles.{InputFiles}
@@ -133,7 +134,7 @@ module _ (held : Held) (names : CheckNames) (input : InputFiles) (reads : ReadsI
       let P : Status → Type 0 = λ s. SaysOf held (Some names) s g g' in
       elim (text_put accepted_text Done result g g' f f' h) [
         | inl e ↦ subst P (sym e.0) (λ told. (d.0, d.1, form_told d.0 d.1 told d.2, inl (d.3, e.1.given)))
-        | inr e ↦ subst P (sym e.0) (λ told. (d.0, d.1, form_told d.0 d.1 told d.2, d.3))
+        | inr e ↦ subst P (sym e.0) (λ told. (d.0, d.1, form_told d.0 d.1 told d.2, d.3, clean_secure d.0 d.1 d.2.plain d.3))
       ]
   decided_verdict (RefusedBy text) result g g' f f' d h =
       let P : Status → Type 0 = λ s. SaysOf held (Some names) s g g' in

@@ -28,7 +28,7 @@ use Rattle.flow_graph.specs.Flow.{node_at, begins, stays, steps, IsFlowNode}
 use Rattle.flow_graph.specs.Graph.{node, at_entry, label_at, is_source}
 use Rattle.flow_graph.proofs.PlainReaching.{root}
 use Rattle.joana_cli.specs.Outcome.{CleanForAll}
-use Rattle.joana_cli.specs.Security.{Agree, AgreeOnInputs, TracesAgree, Secure}
+use Rattle.joana_cli.specs.Security.{Agree, AgreeOnInputs, TracesAgree, Secure, source_level}
 use Rattle.joana_cli.specs.Verdict.{result, call, Clean}
 use Rattle.joana_cli.proofs.AlikeRuns.{Together, over, stand, Standing, EventsAlike, silence, at_sink, AgreeOnRelevant, source_label, label_of_callee, both_step}
 use Rattle.joana_cli.proofs.AlikeValues.{empty, frame_at}
@@ -151,7 +151,7 @@ agree_on_relevant program labels observer clean inputs others agree pc source fl
     let at : label_at program labels labels.entry pc ≡ Some (Source level.0) = label_of_callee program labels labels.entry pc source callee ∙ level.1 in
     let reached = reaches_else labels observer level.0 (λ missed. hidden_irrelevant program labels observer (node (root labels) (RetVal pc)) clean
         (result (root labels) pc at_entry flow (ap (λ l. misses labels observer (brings l)) at ∙ missed)) relevant) in
-    agree source (ap (λ l. reaches labels observer (brings l)) level.1 ∙ reached) place
+    agree source (ap (λ l. reaches labels observer (source_level l)) level.1 ∙ reached) place
 
 pub clean_secure : (program : Program) (labels : Labels) → IsPlainProgram program labels → CleanForAll program labels → Secure program labels
 clean_secure program labels plain clean observer among inputs others agree schedule other_schedule =

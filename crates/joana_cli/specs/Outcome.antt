@@ -8,6 +8,7 @@ use Rattle.jo_prog.specs.declared.labels.Labels.{Labels}
 use Rattle.flow_graph.specs.Graph.{Node}
 use Rattle.flow_graph.specs.Chains.{Link}
 use Rattle.joana_cli.specs.Verdict.{IllegalChain, Clean}
+use Rattle.joana_cli.specs.Security.{Secure}
 use Rattle.joana_cli.specs.Report.{chain_text}
 use Rattle.joana_cli.specs.Words.{CheckNames, paths_of, words_line, not_built_line, file_line, output_line, accepted_text}
 use Rattle.joana_cli.specs.FirstForm.{Held, AreTold, IsInput}
@@ -106,7 +107,7 @@ pub record Reports (program : Program) (labels : Labels) (text : List ℕ) : Typ
 
 -- what each answer says of the files' program
 abbrev pub Says : Held → CheckNames → Status → Option (List ℕ) → Option (List ℕ) → Type 0
-Says held names Done old_given new_given = (program : Program) × (labels : Labels) × IsInput held names program labels × CleanForAll program labels
+Says held names Done old_given new_given = (program : Program) × (labels : Labels) × IsInput held names program labels × CleanForAll program labels × Secure program labels
 Says held names Refused old_given new_given = (program : Program) × (labels : Labels) × (text : List ℕ) × IsInput held names program labels
     × Reports program labels text × Extends old_given new_given text
 Says held names (Input NotBuilt) old_given new_given = (program : Program) (labels : Labels) → IsInput held names program labels → ⊥
