@@ -1,13 +1,15 @@
 -- Runs over a schedule, and what an observer sees of one (this project's own; low-security observational determinism is
 -- after Giffhorn and Snelting 2015).
 use Rattle.std.specs.Prelude.{ℕ, suc, ◌%◌, Bool, true, false, if◌then◌else◌, List, [], ◌∷◌, length, filter, Option, Some, None, slice_index}
+use Rattle.jo_prog.specs.declared.labels.Label.{Label}
+use Rattle.jo_prog.specs.declared.labels.Label.TheVariants.{Sink, Release}
 use Rattle.jo_prog.specs.declared.labels.Labels.{Labels}
 use Rattle.jo_prog.specs.declared.program.Program.{Program}
 use Rattle.jo_prog.specs.declared.runs.SourceInput.{SourceInput}
 use Rattle.jo_prog.specs.declared.runs.Event.{Event}
 use Rattle.jo_prog.specs.declared.runs.Event.TheVariants.{Out, Release as Released}
 use Rattle.jo_prog.specs.declared.runs.Trace.{Trace}
-use Rattle.jo_prog.specs.Labels.{label_of, shown_at, reaches}
+use Rattle.jo_prog.specs.Labels.{label_of, reaches}
 use Rattle.jo_prog.specs.Machine.{Frame, Thread, State, Stepped, step, start}
 
 -- the thread has a frame
@@ -58,14 +60,19 @@ run_from program labels inputs s (number ∷ schedule) =
 abbrev pub run : Program → Labels → List SourceInput → List ℕ → Trace
 run program labels inputs schedule = run_from program labels inputs (start program labels) schedule
 
--- the method at which an event shows
-abbrev pub method_of : Event → ℕ
-method_of (Out sink value) = sink
-method_of (Released method value) = method
+-- the level of a sink, and the `to` of a release
+abbrev pub sink_level : Option Label → Option ℕ
+sink_level (Some (Sink level)) = Some level
+sink_level _ = None
+
+abbrev pub release_to : Option Label → Option ℕ
+release_to (Some (Release from to)) = Some to
+release_to _ = None
 
 -- an observer sees what is shown at a sink whose level flows to it, and at a release whose `to` does
 abbrev pub sees : Labels → ℕ → Event → Bool
-sees labels observer event = reaches labels observer (shown_at (label_of labels (method_of event)))
+sees labels observer (Out sink value) = reaches labels observer (sink_level (label_of labels sink))
+sees labels observer (Released method value) = reaches labels observer (release_to (label_of labels method))
 
 abbrev pub seen : Labels → ℕ → List Event → List Event
 seen labels observer events = filter (sees labels observer) events
