@@ -1,5 +1,5 @@
 -- Two runs of a plain program side by side: after as many steps they stand at one pc, in frames that are alike.
-use Rattle.std.proofs.Common.{◌≡◌, ◌⊎◌, inl, inr, ℕ, suc, ◌+◌, ◌-◌, ℤ, Bool, true, false, List, [], ◌∷◌, length, set, Option, Some, None, Contains, refl, sym, ap, subst, ◌∙◌, arith}
+use Rattle.std.proofs.Common.{◌≡◌, inl, inr, ℕ, ◌+◌, ◌-◌, ℤ, true, List, [], ◌∷◌, length, set, Option, Some, None, refl, sym, ap, subst, ◌∙◌, arith}
 use Rattle.std.specs.Prelude.{slice_index}
 use Rattle.std.specs.List.{AllByRecursion}
 use Rattle.std.proofs.lemmas.Bool.{false≢true}
@@ -18,14 +18,14 @@ use Rattle.jo_prog.specs.Labels.{label_of}
 use Rattle.jo_prog.specs.Program.{code_at, operation_at, callee_at}
 use Rattle.jo_prog.specs.PlainCode.{IsLabelledNative, goes_on, IsPlainFrom, last, then}
 use Rattle.jo_prog.specs.Running.{with_thread}
-use Rattle.jo_prog.specs.Typing.{Kind, Int, Shape, with_stack, exchange_by, shape_after, Arrives, IsTypedCode, HasHeight}
-use Rattle.jo_prog.specs.Values.{Value, int, Info}
-use Rattle.jo_prog.specs.Machine.{Frame, State, Stepped, info_at, execute, silent, input_at, called, after_call, call_native, step_operation, step}
+use Rattle.jo_prog.specs.Typing.{Kind, Int, Shape, with_stack, exchange_by, Arrives, IsTypedCode, HasHeight}
+use Rattle.jo_prog.specs.Values.{Value, int}
+use Rattle.jo_prog.specs.Machine.{State, Stepped, info_at, execute, silent, input_at, called, after_call, call_native, step_operation, step}
 use Rattle.flow_graph.specs.declared.flow.Place.{Place}
 use Rattle.flow_graph.specs.declared.flow.Place.TheVariants.{Local, Stack}
 use Rattle.flow_graph.specs.declared.flow.NodeKind.{NodeKind}
 use Rattle.flow_graph.specs.declared.flow.NodeKind.TheVariants.{Entry, Instr, Call, RetVal, Arg}
-use Rattle.flow_graph.specs.Flow.{node_of, node_at, falls_through, FlowEdge, falls, calls, arrives as arrives_at, IsFlowNode, reads_of, writes_of, Reads, Writes, by_instr, by_result, ArgumentPlace, of_argument}
+use Rattle.flow_graph.specs.Flow.{node_of, node_at, falls_through, FlowEdge, falls, calls, arrives as arrives_at, IsFlowNode, Writes, by_instr, by_result, ArgumentPlace, of_argument}
 use Rattle.flow_graph.specs.Graph.{at_entry, label_at, is_source, is_sink, shown}
 use Rattle.flow_graph.proofs.PlainCalls.{result_place}
 use Rattle.flow_graph.proofs.PlainLine.{flow_on}

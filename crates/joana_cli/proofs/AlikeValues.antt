@@ -1,5 +1,5 @@
 -- Two frames of typed plain code: ints as their shape says, and equal where they are needed.
-use Rattle.std.proofs.Common.{◌≡◌, ◌≢◌, ◌⊎◌, inl, inr, ℕ, zero, suc, ◌-◌, ◌<◌, ℤ, Bool, true, false, cond, List, [], ◌∷◌, length, take, drop, set, Option, Some, None, Contains, refl, sym, ap, subst, ◌∙◌, arith, length-set}
+use Rattle.std.proofs.Common.{◌≡◌, inl, inr, ℕ, zero, suc, ◌-◌, ◌<◌, ℤ, true, List, [], ◌∷◌, length, take, drop, set, Option, Some, None, Contains, refl, sym, ap, subst, ◌∙◌, arith, length-set}
 use Rattle.std.specs.Prelude.{nat_le, nat_lt, slice_get}
 use Rattle.std.proofs.lemmas.List.Elements.{Contains-append_right}
 use Rattle.std.proofs.lemmas.Bool.{false≢true, cases_eq, cond-true, le-leb, ltb-true}
@@ -8,7 +8,7 @@ use Rattle.std.specs.Int.{w32, int_wrapping_add, int_wrapping_sub}
 use Rattle.class_read.specs.declared.jo_insn.Operation.{Operation}
 use Rattle.class_read.specs.declared.jo_insn.Operation.TheVariants.{Constant, Load, Store, Add, Subtract, InvokeStatic, Return, Other}
 use Rattle.jo_prog.specs.declared.program.Program.{Program}
-use Rattle.jo_prog.specs.Typing.{Kind, Int, Null, Ref, Unset, Shape, with_stack, pop_ints, exchange, loaded, stored, shape_after}
+use Rattle.jo_prog.specs.Typing.{Kind, Int, Null, Ref, Unset, Shape, with_stack, exchange, loaded, stored, shape_after}
 use Rattle.jo_prog.specs.Values.{Value, int, Info}
 use Rattle.jo_prog.specs.Machine.{Frame, popped, fetched, fetched_local, execute}
 use Rattle.flow_graph.specs.declared.flow.Place.{Place}

@@ -1,11 +1,10 @@
 -- What an observer sees of two runs of a clean plain program agrees.
-use Rattle.std.proofs.Common.{◌≡◌, ℕ, zero, suc, ◌%◌, ℤ, Bool, true, false, cond, List, [], ◌∷◌, length, replicate, Option, Some, None, Contains, refl, sym, ap, subst, ◌∙◌, inl}
+use Rattle.std.proofs.Common.{◌≡◌, ℕ, zero, suc, ◌%◌, ℤ, Bool, true, false, cond, List, [], ◌∷◌, length, replicate, Option, Some, None, refl, sym, ap, subst, ◌∙◌, inl}
 use Rattle.std.specs.Prelude.{slice_get, slice_index}
 use Rattle.std.specs.List.{AllByRecursion}
 use Rattle.std.proofs.lemmas.Bool.{false≢true}
 use Rattle.std.proofs.lemmas.Option.{none-some, same_Some}
 use Rattle.std.proofs.lemmas.List.{length-replicate}
-use Rattle.jo_prog.specs.declared.labels.Label.{Label}
 use Rattle.jo_prog.specs.declared.labels.Label.TheVariants.{Source}
 use Rattle.jo_prog.specs.declared.labels.Labels.{Labels}
 use Rattle.jo_prog.specs.declared.program.Program.{Program}
@@ -15,22 +14,22 @@ use Rattle.jo_prog.specs.declared.runs.Event.{Event}
 use Rattle.jo_prog.specs.declared.runs.Event.TheVariants.{Out}
 use Rattle.jo_prog.specs.declared.runs.Trace.{Trace}
 use Rattle.jo_prog.specs.Labels.{label_of, reaches, misses, shown_at, brings}
-use Rattle.jo_prog.specs.Program.{code_at, callee_at}
+use Rattle.jo_prog.specs.Program.{code_at}
 use Rattle.jo_prog.specs.PlainCode.{IsLabelledNative, IsPlainProgram}
 use Rattle.jo_prog.specs.Running.{with_thread}
-use Rattle.jo_prog.specs.Runs.{unmoved, advanced, with_event, run_from, run, seen}
-use Rattle.jo_prog.specs.Typing.{Kind, Int, Unset, shape_at_start, at_start, IsTypedCode}
+use Rattle.jo_prog.specs.Runs.{unmoved, advanced, with_event, run_from, seen}
+use Rattle.jo_prog.specs.Typing.{Int, Unset, shape_at_start, at_start, IsTypedCode}
 use Rattle.jo_prog.specs.Values.{Value}
-use Rattle.jo_prog.specs.Machine.{Frame, State, Stepped, input_at, step, first_frame, start}
+use Rattle.jo_prog.specs.Machine.{Frame, State, Stepped, step, first_frame, start}
 use Rattle.flow_graph.specs.declared.flow.NodeKind.{NodeKind}
 use Rattle.flow_graph.specs.declared.flow.NodeKind.TheVariants.{Entry, Call, RetVal}
 use Rattle.flow_graph.specs.Flow.{node_at, begins, stays, steps, IsFlowNode}
-use Rattle.flow_graph.specs.Graph.{node, at_entry, label_at, is_source}
+use Rattle.flow_graph.specs.Graph.{node, at_entry, label_at}
 use Rattle.flow_graph.proofs.PlainReaching.{root}
 use Rattle.joana_cli.specs.Outcome.{CleanForAll}
 use Rattle.joana_cli.specs.Security.{Agree, AgreeOnInputs, TracesAgree, Secure, source_level}
 use Rattle.joana_cli.specs.Verdict.{result, call, Clean}
-use Rattle.joana_cli.proofs.AlikeRuns.{Together, over, stand, Standing, EventsAlike, silence, at_sink, AgreeOnRelevant, source_label, label_of_callee, both_step}
+use Rattle.joana_cli.proofs.AlikeRuns.{Together, over, stand, EventsAlike, silence, at_sink, AgreeOnRelevant, source_label, label_of_callee, both_step}
 use Rattle.joana_cli.proofs.AlikeValues.{empty, frame_at}
 use Rattle.joana_cli.proofs.Relevance.{IsClosed, IsRelevant, observed_relevant, hidden_irrelevant, reaches_else, relevant_by_data}
 

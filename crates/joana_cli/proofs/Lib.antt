@@ -1,8 +1,11 @@
+pub mod Agreement
 pub mod AlikeRuns
 pub mod AlikeValues
 pub mod Answering
 pub mod CleanRuns
 pub mod Forms
+pub mod LeakRuns
+pub mod NeverStuck
 pub mod PolicyLabels
 pub mod PolicyParts
 pub mod PolicyReads

@@ -1,7 +1,6 @@
 -- Relevance: the nodes from which a valid chain leads to what an observer may see, and the places whose value bears on a
 -- set of nodes.
 use Rattle.std.proofs.Common.{◌≡◌, ℕ, Bool, true, false, cond, List, [], ◌∷◌, Some, refl, ap}
-use Rattle.std.proofs.lemmas.Bool.{false≢true}
 use Rattle.jo_prog.specs.declared.labels.Labels.{Labels}
 use Rattle.jo_prog.specs.declared.program.Program.{Program}
 use Rattle.jo_prog.specs.Labels.{flows, reaches, misses}

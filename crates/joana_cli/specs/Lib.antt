@@ -9,3 +9,5 @@ pub mod Outcome
 pub mod Input
 pub mod Decision
 pub mod Sides
+pub mod Leak
+pub mod RunStates
