@@ -5,7 +5,7 @@ use Rattle.std.proofs.lemmas.Bool.{cases_eq, cases_Bool, false≢true}
 use Rattle.jo_prog.specs.declared.labels.Labels.{Labels}
 use Rattle.jo_prog.specs.declared.runs.Event.{Event}
 use Rattle.jo_prog.specs.declared.runs.Event.TheVariants.{Out, Release as Released}
-use Rattle.jo_prog.specs.Labels.{label_of, lets_out, reaches}
+use Rattle.jo_prog.specs.Labels.{label_of, lets_out, misses}
 use Rattle.joana_cli.specs.Security.{Agree, DifferInRelease}
 
 -- ---- decisions
@@ -45,12 +45,12 @@ module _ (labels : Labels) (observer : ℕ) where
   cases_differ (Out m v) y = inr (λ d. d)
   cases_differ (Released m v) (Out n w) = inr (λ d. d)
   cases_differ (Released m v) (Released n w) =
-      let let_out : Bool = reaches labels observer (lets_out (label_of labels m)) in
+      let hidden : Bool = misses labels observer (lets_out (label_of labels m)) in
       elim (cases_eq m n) [
         | inr other ↦ inr (λ d. other d.0)
         | inl same ↦ elim (cases_int v w) [
           | inl equal ↦ inr (λ d. d.1 equal)
-          | inr unequal ↦ elim (cases_Bool let_out) [ inl seen ↦ inr (λ d. false≢true (sym d.2 ∙ seen)) | inr unseen ↦ inl (same, unequal, unseen) ]
+          | inr unequal ↦ elim (cases_Bool hidden) [ inl missed ↦ inl (same, unequal, missed) | inr seen ↦ inr (λ d. false≢true (sym seen ∙ d.2)) ]
         ]
       ]
 
@@ -77,7 +77,7 @@ module _ (labels : Labels) (observer : ℕ) where
   differ_symmetric : (x y : Event) → DifferInRelease labels observer x y → DifferInRelease labels observer y x
   differ_symmetric (Out m v) y d = absurd d
   differ_symmetric (Released m v) (Out n w) d = absurd d
-  differ_symmetric (Released m v) (Released n w) d = (sym d.0, (λ e. d.1 (sym e)), subst (λ k. reaches labels observer (lets_out (label_of labels k)) ≡ false) d.0 d.2)
+  differ_symmetric (Released m v) (Released n w) d = (sym d.0, (λ e. d.1 (sym e)), subst (λ k. misses labels observer (lets_out (label_of labels k)) ≡ true) d.0 d.2)
 
   pub agree_symmetric : (xs ys : List Event) (ended other_ended : Bool) → Agree labels observer xs ended ys other_ended → Agree labels observer ys other_ended xs ended
   agree_symmetric [] [] ended other_ended agree = tt

@@ -5,7 +5,8 @@ use Rattle.std.specs.List.{AllByRecursion}
 use Rattle.std.proofs.lemmas.Bool.{false≢true}
 use Rattle.std.proofs.lemmas.Option.{none-some, same_Some}
 use Rattle.std.proofs.lemmas.List.{length-replicate}
-use Rattle.jo_prog.specs.declared.labels.Label.TheVariants.{Source}
+use Rattle.jo_prog.specs.declared.labels.Label.{Label}
+use Rattle.jo_prog.specs.declared.labels.Label.TheVariants.{Source, Sink, Release}
 use Rattle.jo_prog.specs.declared.labels.Labels.{Labels}
 use Rattle.jo_prog.specs.declared.program.Program.{Program}
 use Rattle.jo_prog.specs.declared.program.Code.{Code}
@@ -17,7 +18,7 @@ use Rattle.jo_prog.specs.Labels.{label_of, reaches, misses, shown_at, brings}
 use Rattle.jo_prog.specs.Program.{code_at}
 use Rattle.jo_prog.specs.PlainCode.{IsLabelledNative, IsPlainProgram}
 use Rattle.jo_prog.specs.Running.{with_thread}
-use Rattle.jo_prog.specs.Runs.{unmoved, advanced, with_event, run_from, seen}
+use Rattle.jo_prog.specs.Runs.{unmoved, advanced, with_event, run_from, seen, sink_level}
 use Rattle.jo_prog.specs.Typing.{Int, Unset, shape_at_start, at_start, IsTypedCode}
 use Rattle.jo_prog.specs.Values.{Value}
 use Rattle.jo_prog.specs.Machine.{Frame, State, Stepped, step, first_frame, start}
@@ -79,12 +80,19 @@ at_sink_agree : (labels : Labels) (observer m : ℕ) (x y : ℤ) (xs ys : List E
 at_sink_agree labels observer m x y xs ys ended other_ended true same agree = inl (ap (λ z. Out m z) (same refl), agree)
 at_sink_agree labels observer m x y xs ys ended other_ended false same agree = agree
 
+-- what is seen of a sink is shown there
+sink_shows : (labels : Labels) (observer : ℕ) (label : Option Label) → reaches labels observer (sink_level label) ≡ true → reaches labels observer (shown_at label) ≡ true
+sink_shows labels observer None h = h
+sink_shows labels observer (Some (Source level)) h = h
+sink_shows labels observer (Some (Sink level)) h = h
+sink_shows labels observer (Some (Release from to)) h = absurd (false≢true h)
+
 events_agree : (program : Program) (labels : Labels) (observer : ℕ) (Relevant : NodeKind → Type 0) → ShowsRelevant program labels observer Relevant → (a b : Option Event) (t u : Trace) → EventsAlike program labels Relevant a b
     → TracesAgree labels observer t u → TracesAgree labels observer (with_event a t) (with_event b u)
 events_agree program labels observer Relevant shows a b t u silence agree = agree
 events_agree program labels observer Relevant shows a b t u (at_sink pc m x y flow callee same) agree =
-    at_sink_agree labels observer m x y (seen labels observer t.events) (seen labels observer u.events) t.ended u.ended (reaches labels observer (shown_at (label_of labels m)))
-    (λ is. same (shows pc flow (ap (λ l. reaches labels observer (shown_at l)) (label_of_callee program labels labels.entry pc m callee) ∙ is))) agree
+    at_sink_agree labels observer m x y (seen labels observer t.events) (seen labels observer u.events) t.ended u.ended (reaches labels observer (sink_level (label_of labels m)))
+    (λ is. same (shows pc flow (ap (λ l. reaches labels observer (shown_at l)) (label_of_callee program labels labels.entry pc m callee) ∙ sink_shows labels observer (label_of labels m) is))) agree
 
 module _ (program : Program) (labels : Labels) (code : Code) (found : code_at program labels.entry ≡ Some code) (typed : IsTypedCode program labels.entry code) (natives : AllByRecursion (IsLabelledNative program labels) labels.labelled)
     (Relevant : NodeKind → Type 0) (closed : IsClosed program labels Relevant) (inputs others : List SourceInput) (agree : AgreeOnRelevant program labels Relevant inputs others) (observer : ℕ) (shows : ShowsRelevant program labels observer Relevant) where

@@ -5,13 +5,13 @@ use Rattle.std.specs.Prelude.{slice_index_or}
 use Rattle.std.proofs.lemmas.Bool.{cases_Bool, false≢true, eqb-true}
 use Rattle.class_read.specs.Opcodes.{decoded, operation_of}
 use Rattle.jo_prog.specs.declared.runs.Event.TheVariants.{Out}
-use Rattle.jo_prog.specs.Labels.{label_of, brings, reaches}
+use Rattle.jo_prog.specs.Labels.{label_of, reaches}
 use Rattle.jo_prog.specs.Machine.{input_at}
 use Rattle.jo_prog.specs.Runs.{run_from, run, seen}
 use Rattle.jo_prog.specs.Worked.{worked_labels, worked_inputs}
 use Rattle.flow_graph.proofs.NodeLists.{contains_first}
 use Rattle.joana_cli.specs.Leak.{leaking_program}
-use Rattle.joana_cli.specs.Security.{Agree, AgreeOnInputs, Secure}
+use Rattle.joana_cli.specs.Security.{Agree, AgreeOnInputs, Secure, source_level}
 use Rattle.joana_cli.proofs.Agreement.{other_out_disagrees}
 
 shows_seven : seen worked_labels 0 (run leaking_program worked_labels (worked_inputs (pos 5) (pos 7)) (replicate 9 0)).events ≡ Out 2 (pos 8) ∷ []
@@ -25,7 +25,7 @@ shows_eight = refl
 -- inputs that differ in the secret alone agree for the low observer
 secrets_agree : (got one other : ℤ) → AgreeOnInputs worked_labels 0 (worked_inputs got one) (worked_inputs got other)
 secrets_agree got one other source seen place = elim (cases_Bool (0 == source)) [
-  | inl secret ↦ absurd (false≢true (subst (λ s. reaches worked_labels 0 (brings (label_of worked_labels s)) ≡ true) (sym (eqb-true 0 source secret)) seen))
+  | inl secret ↦ absurd (false≢true (subst (λ s. reaches worked_labels 0 (source_level (label_of worked_labels s)) ≡ true) (sym (eqb-true 0 source secret)) seen))
   | inr public ↦ at_other got one other source place public
 ]
   where
