@@ -136,6 +136,14 @@ fn runs_a_class(rt: HostRuntime) -> Result<(), Fail> {
         (None, false)
     );
     assert_eq!(rt;
+        outcome(rt.alloc(), &program, Some(5), &numbers[..8])?,
+        (Some((2, 6)), false)
+    );
+    assert_eq!(rt;
+        outcome(rt.alloc(), &program, Some(5), &[9; 12])?,
+        (Some((2, 6)), true)
+    );
+    assert_eq!(rt;
         outcome(rt.alloc(), &program, Some(i32::MAX), &numbers)?,
         (Some((2, i32::MIN)), true)
     );
