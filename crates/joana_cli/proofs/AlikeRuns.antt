@@ -19,7 +19,7 @@ use Rattle.jo_prog.specs.Program.{code_at, operation_at, callee_at}
 use Rattle.jo_prog.specs.PlainCode.{IsLabelledNative, goes_on, IsPlainFrom, last, then}
 use Rattle.jo_prog.specs.Running.{with_thread}
 use Rattle.jo_prog.specs.Typing.{Kind, Int, Shape, with_stack, exchange_by, Arrives, IsTypedCode, HasHeight}
-use Rattle.jo_prog.specs.Values.{Value, int}
+use Rattle.jo_prog.specs.Values.{Value, int, Info}
 use Rattle.jo_prog.specs.Machine.{State, Stepped, info_at, execute, silent, input_at, called, after_call, call_native, step_operation, step}
 use Rattle.flow_graph.specs.declared.flow.Place.{Place}
 use Rattle.flow_graph.specs.declared.flow.Place.TheVariants.{Local, Stack}
@@ -129,6 +129,30 @@ module _ (program : Program) (labels : Labels) (code : Code) (found_code : code_
   abbrev at_pc : List ℕ → ℕ → List (Option (Value ℕ)) → List (Value ℕ) → State
   at_pc cursors pc locals stack = with_thread cursors (frame_at labels.entry pc locals stack ∷ [])
 
+  silent_found : (ins : List SourceInput) (cursors : List ℕ) (pc next : ℕ) (operation : Operation) (locals : List (Option (Value ℕ))) (stack : List (Value ℕ)) (new_locals : List (Option (Value ℕ))) (new_stack : List (Value ℕ))
+      → operation_at program labels.entry pc ≡ Some (operation, next) → IsSilent program labels pc next operation
+      → ((info : ℕ → Info) → executed_in labels.entry pc next operation locals stack info ≡ Some (frame_at labels.entry next new_locals new_stack ∷ []))
+      → step program labels ins (at_pc cursors pc locals stack) 0 ≡ Some (record { state = at_pc cursors next new_locals new_stack; event = None })
+  silent_found ins cursors pc next operation locals stack new_locals new_stack found quiet executes =
+      step_found ins cursors pc next operation locals stack (record { state = at_pc cursors next new_locals new_stack; event = None }) found
+      (quiet ins cursors locals stack ∙ ap (silent (at_pc cursors pc locals stack) 0) (executes (info_at (at_pc cursors pc locals stack))))
+
+  -- a source gives its next int
+  source_given : (ins : List SourceInput) (cursors : List ℕ) (pc next k s : ℕ) (locals : List (Option (Value ℕ))) (stack : List (Value ℕ)) → callee_at program labels.entry pc ≡ Some s → is_source (label_of labels s) ≡ true
+      → step_operation program labels ins (at_pc cursors pc locals stack) 0 (frame_at labels.entry pc locals stack) [] (Some (InvokeStatic k, next))
+      ≡ Some (record { state = at_pc (set cursors s (slice_index cursors s + 1)) next locals (int (input_at ins s (slice_index cursors s)) ∷ stack); event = None })
+  source_given ins cursors pc next k s locals stack callee source =
+      ap (call_native labels ins (at_pc cursors pc locals stack) 0 (frame_at labels.entry pc locals stack) [] next) callee
+      ∙ ap (λ l. after_call (at_pc cursors pc locals stack) 0 (frame_at labels.entry pc locals stack) [] next (called ins cursors s l stack)) (source_label (label_of labels s) source).1
+
+  -- a sink shows the int on the stack
+  sink_shown : (ins : List SourceInput) (cursors : List ℕ) (pc next k s : ℕ) (locals : List (Option (Value ℕ))) (z : ℤ) (stack : List (Value ℕ)) → callee_at program labels.entry pc ≡ Some s → is_sink (label_of labels s) ≡ true
+      → step_operation program labels ins (at_pc cursors pc locals (int z ∷ stack)) 0 (frame_at labels.entry pc locals (int z ∷ stack)) [] (Some (InvokeStatic k, next))
+      ≡ Some (record { state = at_pc cursors next locals stack; event = Some (Out s z) })
+  sink_shown ins cursors pc next k s locals z stack callee sink =
+      ap (call_native labels ins (at_pc cursors pc locals (int z ∷ stack)) 0 (frame_at labels.entry pc locals (int z ∷ stack)) [] next) callee
+      ∙ ap (λ l. after_call (at_pc cursors pc locals (int z ∷ stack)) 0 (frame_at labels.entry pc locals (int z ∷ stack)) [] next (called ins cursors s l (int z ∷ stack))) (sink_label (label_of labels s) sink).1
+
   module _ (cursors other_cursors : List ℕ) (ca : CursorsAlike program labels Relevant cursors other_cursors) (pc next : ℕ) (locals other_locals : List (Option (Value ℕ))) (stack other_stack : List (Value ℕ)) (shape : Shape) (arrives : Arrives program labels.entry code pc shape) (flow : IsFlowNode program labels.entry (node_at program labels.entry pc))
       (la : LocalsAlike (λ v. IsNeeded program labels.entry Relevant v (node_at program labels.entry pc)) shape.locals locals other_locals) (sa : StacksAlike (λ v. IsNeeded program labels.entry Relevant v (node_at program labels.entry pc)) shape.stack stack other_stack) where
     silent_step : (operation : Operation) → operation_at program labels.entry pc ≡ Some (operation, next) → falls_through operation ≡ true → node_of pc (Some (operation, next)) ≡ Instr pc → IsSilent program labels pc next operation
@@ -143,15 +167,15 @@ module _ (program : Program) (labels : Labels) (code : Code) (found_code : code_
         let here : IsFlowNode program m (Instr pc) = subst (λ n. IsFlowNode program m n) at flow in
         let edge : FlowEdge program m (Instr pc) to = falls pc next operation to found on refl in
         let both = operation_alike (λ v. IsNeeded program m Relevant v (Instr pc)) (λ v. IsNeeded program m Relevant v to) m pc next locals other_locals program (callee_at program m pc) operation shape go.shape stack other_stack on go.made
-            (λ v none need. later (Instr pc) to (λ w. none (instr_writes program labels pc next operation found h has v w)) edge need)
-            (λ v w among need reading. read (Instr pc) (by_instr pc next h operation v found has reading) (needed_writer program labels Relevant closed w (Instr pc) to here (by_instr pc next h operation w found has among) edge need))
-            (subst (λ n. LocalsAlike (λ v. IsNeeded program m Relevant v n) shape.locals locals other_locals) at la)
-            (subst (λ n. StacksAlike (λ v. IsNeeded program m Relevant v n) shape.stack stack other_stack) at sa) in
+        (λ v none need. later (Instr pc) to (λ w. none (instr_writes program labels pc next operation found h has v w)) edge need)
+        (λ v w among need reading. read (Instr pc) (by_instr pc next h operation v found has reading) (needed_writer program labels Relevant closed w (Instr pc) to here (by_instr pc next h operation w found has among) edge need))
+        (subst (λ n. LocalsAlike (λ v. IsNeeded program m Relevant v n) shape.locals locals other_locals) at la)
+        (subst (λ n. StacksAlike (λ v. IsNeeded program m Relevant v n) shape.stack stack other_stack) at sa) in
         record {
           one = record { state = at_pc cursors next both.new_locals both.new_stack; event = None };
           other = record { state = at_pc other_cursors next both.new_others both.new_other_stack; event = None };
-          steps = step_found inputs cursors pc next operation locals stack _ found (quiet inputs cursors locals stack ∙ ap (silent (at_pc cursors pc locals stack) 0) (both.one (info_at (at_pc cursors pc locals stack))));
-          other_steps = step_found others other_cursors pc next operation other_locals other_stack _ found (quiet others other_cursors other_locals other_stack ∙ ap (silent (at_pc other_cursors pc other_locals other_stack) 0) (both.other (info_at (at_pc other_cursors pc other_locals other_stack))));
+          steps = silent_found inputs cursors pc next operation locals stack both.new_locals both.new_stack found quiet both.one;
+          other_steps = silent_found others other_cursors pc next operation other_locals other_stack both.new_others both.new_other_stack found quiet both.other;
           events = silence;
           together = stand cursors other_cursors next both.new_locals both.new_others both.new_stack both.new_other_stack
               (record { shape = go.shape; arrives = go.arrives; plain = rest; flow = flow_on program m Entry (Instr pc) to here edge; cursors_alike = ca; locals_alike = both.locals_alike; stacks_alike = both.stacks_alike });
@@ -199,15 +223,11 @@ module _ (program : Program) (labels : Labels) (code : Code) (found_code : code_
         let moved = set cursors s (place + 1) in
         let other_moved = set other_cursors s (other_place + 1) in
         let uses : UsesCursor program labels s (node (root labels) (RetVal pc)) = at_result (root labels) pc s at_entry there callee source in
-        let level = source_label (label_of labels s) source in
-        let gives : (ins : List SourceInput) (cs : List ℕ) (ls : List (Option (Value ℕ))) (vs : List (Value ℕ)) → step_operation program labels ins (at_pc cs pc ls vs) 0 (frame_at m pc ls vs) [] (Some (InvokeStatic k, next)) ≡ Some (record { state = at_pc (set cs s (slice_index cs s + 1)) next ls (int (input_at ins s (slice_index cs s)) ∷ vs); event = None }) = λ ins cs ls vs.
-        ap (call_native labels ins (at_pc cs pc ls vs) 0 (frame_at m pc ls vs) [] next) callee
-        ∙ ap (λ l. after_call (at_pc cs pc ls vs) 0 (frame_at m pc ls vs) [] next (called ins cs s l vs)) level.1 in
         record {
           one = record { state = at_pc moved next locals (int (input_at inputs s place) ∷ stack); event = None };
           other = record { state = at_pc other_moved next other_locals (int (input_at others s other_place) ∷ other_stack); event = None };
-          steps = step_found inputs cursors pc next (InvokeStatic k) locals stack _ found (gives inputs cursors locals stack);
-          other_steps = step_found others other_cursors pc next (InvokeStatic k) other_locals other_stack _ found (gives others other_cursors other_locals other_stack);
+          steps = step_found inputs cursors pc next (InvokeStatic k) locals stack _ found (source_given inputs cursors pc next k s locals stack callee source);
+          other_steps = step_found others other_cursors pc next (InvokeStatic k) other_locals other_stack _ found (source_given others other_cursors pc next k s other_locals other_stack callee source);
           events = silence;
           together = stand moved other_moved next locals other_locals (int (input_at inputs s place) ∷ stack) (int (input_at others s other_place) ∷ other_stack)
               (record {
@@ -255,15 +275,11 @@ module _ (program : Program) (labels : Labels) (code : Code) (found_code : code_
         let keep : (v : Place) → New v → Old v = λ v need.
         later (Call pc) (RetVal pc) (no_write_at_call program m pc v) into
         (later (RetVal pc) to (λ w. (let none = (result_place program m pc h 1 0 v w has call.counts call.gives).0 in let no : ⊥ = omega arith in no)) out need) in
-        let level = sink_label (label_of labels s) sink in
-        let shows : (ins : List SourceInput) (cs : List ℕ) (ls : List (Option (Value ℕ))) (z : ℤ) (vs : List (Value ℕ)) → step_operation program labels ins (at_pc cs pc ls (int z ∷ vs)) 0 (frame_at m pc ls (int z ∷ vs)) [] (Some (InvokeStatic k, next)) ≡ Some (record { state = at_pc cs next ls vs; event = Some (Out s z) }) = λ ins cs ls z vs.
-        ap (call_native labels ins (at_pc cs pc ls (int z ∷ vs)) 0 (frame_at m pc ls (int z ∷ vs)) [] next) callee
-        ∙ ap (λ l. after_call (at_pc cs pc ls (int z ∷ vs)) 0 (frame_at m pc ls (int z ∷ vs)) [] next (called ins cs s l (int z ∷ vs))) level.1 in
         record {
           one = record { state = at_pc cursors next locals xs; event = Some (Out s x) };
           other = record { state = at_pc other_cursors next other_locals ys; event = Some (Out s y) };
-          steps = step_found inputs cursors pc next (InvokeStatic k) locals (int x ∷ xs) _ found (shows inputs cursors locals x xs);
-          other_steps = step_found others other_cursors pc next (InvokeStatic k) other_locals (int y ∷ ys) _ found (shows others other_cursors other_locals y ys);
+          steps = step_found inputs cursors pc next (InvokeStatic k) locals (int x ∷ xs) _ found (sink_shown inputs cursors pc next k s locals x xs callee sink);
+          other_steps = step_found others other_cursors pc next (InvokeStatic k) other_locals (int y ∷ ys) _ found (sink_shown others other_cursors pc next k s other_locals y ys callee sink);
           events = at_sink pc s x y here callee (λ relevant. same (passed pc 0 argument
               (closed (Arg pc 0) (Call pc) (shown (root labels) pc (Stack (length under)) at_entry here (ap is_sink (label_of_callee program labels m pc s callee) ∙ sink) argument) relevant)));
           together = stand cursors other_cursors next locals other_locals xs ys

@@ -33,7 +33,7 @@ use Rattle.joana_cli.specs.Security.{Agree, AgreeOnInputs, TracesAgree, Secure, 
 use Rattle.joana_cli.specs.Verdict.{result, call, Clean}
 use Rattle.joana_cli.proofs.AlikeRuns.{Together, over, stand, EventsAlike, silence, at_sink, AgreeOnRelevant, source_label, label_of_callee, both_step}
 use Rattle.joana_cli.proofs.AlikeValues.{empty, frame_at}
-use Rattle.joana_cli.proofs.Relevance.{IsClosed, IsRelevant, observed_relevant, hidden_irrelevant, reaches_else, relevant_by_data}
+use Rattle.joana_cli.proofs.Relevance.{IsClosed, IsRelevant, at_end, hidden_irrelevant, reaches_else, relevant_by_data}
 
 -- ---- a number of the schedule
 
@@ -168,5 +168,5 @@ pub clean_secure : (program : Program) (labels : Labels) → IsPlainProgram prog
 clean_secure program labels plain clean observer among inputs others agree schedule other_schedule =
     let Relevant : NodeKind → Type 0 = λ n. IsRelevant program labels observer (node (root labels) n) in
     together_agree program labels plain.code plain.found plain.typed plain.well_labelled.natives Relevant (relevant_by_data program labels observer) inputs others
-    (agree_on_relevant program labels observer (clean observer among) inputs others agree) observer (λ pc flow is. observed_relevant program labels observer (node (root labels) (Call pc)) (call (root labels) pc at_entry flow is))
+    (agree_on_relevant program labels observer (clean observer among) inputs others agree) observer (λ pc flow is. at_end (node (root labels) (Call pc)) (call (root labels) pc at_entry flow is))
     schedule other_schedule (start program labels) (start program labels) (start_together program labels Relevant plain)
