@@ -161,7 +161,7 @@ agree_on_relevant program labels observer clean inputs others agree source pc us
     let level = source_label (label_of labels source) (cursor_callee program labels source (node (root labels) (RetVal pc)) uses).1 in
     let at : label_at program labels labels.entry pc ≡ Some (Source level.0) = label_of_callee program labels labels.entry pc source callee ∙ level.1 in
     let reached = reaches_else labels observer level.0 (λ missed. hidden_irrelevant program labels observer (node (root labels) (RetVal pc)) clean
-        (result (root labels) pc at_entry flow (ap (λ l. misses labels observer (brings l)) at ∙ missed)) relevant) in
+    (result (root labels) pc at_entry flow (ap (λ l. misses labels observer (brings l)) at ∙ missed)) relevant) in
     agree source (ap (λ l. reaches labels observer (source_level l)) level.1 ∙ reached) place
 
 pub clean_secure : (program : Program) (labels : Labels) → IsPlainProgram program labels → CleanForAll program labels → Secure program labels
