@@ -27,12 +27,13 @@ use Rattle.flow_graph.specs.declared.flow.NodeKind.TheVariants.{Entry, Call, Ret
 use Rattle.flow_graph.specs.Flow.{node_at, begins, stays, steps, IsFlowNode}
 use Rattle.flow_graph.specs.Graph.{node, at_entry, label_at}
 use Rattle.flow_graph.proofs.PlainReaching.{root}
+use Rattle.flow_graph.proofs.PlainSteps.{cursor_callee, cursor_flow}
 use Rattle.joana_cli.specs.Outcome.{CleanForAll}
 use Rattle.joana_cli.specs.Security.{Agree, AgreeOnInputs, TracesAgree, Secure, source_level}
 use Rattle.joana_cli.specs.Verdict.{result, call, Clean}
 use Rattle.joana_cli.proofs.AlikeRuns.{Together, over, stand, EventsAlike, silence, at_sink, AgreeOnRelevant, source_label, label_of_callee, both_step}
 use Rattle.joana_cli.proofs.AlikeValues.{empty, frame_at}
-use Rattle.joana_cli.proofs.Relevance.{IsClosed, IsRelevant, observed_relevant, hidden_irrelevant, reaches_else, relevant_by_data}
+use Rattle.joana_cli.proofs.Relevance.{IsClosed, IsRelevant, at_end, hidden_irrelevant, reaches_else, relevant_by_data}
 
 -- ---- a number of the schedule
 
@@ -96,26 +97,26 @@ events_agree program labels observer Relevant shows a b t u (at_sink pc m x y fl
 
 module _ (program : Program) (labels : Labels) (code : Code) (found : code_at program labels.entry ≡ Some code) (typed : IsTypedCode program labels.entry code) (natives : AllByRecursion (IsLabelledNative program labels) labels.labelled)
     (Relevant : NodeKind → Type 0) (closed : IsClosed program labels Relevant) (inputs others : List SourceInput) (agree : AgreeOnRelevant program labels Relevant inputs others) (observer : ℕ) (shows : ShowsRelevant program labels observer Relevant) where
-  over_agree : (cursors schedule other_schedule : List ℕ) → TracesAgree labels observer (run_from program labels inputs (with_thread cursors []) schedule) (run_from program labels others (with_thread cursors []) other_schedule)
-  over_agree cursors schedule other_schedule =
-      subst (λ t. TracesAgree labels observer t (run_from program labels others (with_thread cursors []) other_schedule)) (sym (run_over program labels inputs cursors schedule))
-      (subst (λ t. TracesAgree labels observer (record { events = []; ended = true }) t) (sym (run_over program labels others cursors other_schedule)) tt)
+  over_agree : (cursors other_cursors schedule other_schedule : List ℕ) → TracesAgree labels observer (run_from program labels inputs (with_thread cursors []) schedule) (run_from program labels others (with_thread other_cursors []) other_schedule)
+  over_agree cursors other_cursors schedule other_schedule =
+      subst (λ t. TracesAgree labels observer t (run_from program labels others (with_thread other_cursors []) other_schedule)) (sym (run_over program labels inputs cursors schedule))
+      (subst (λ t. TracesAgree labels observer (record { events = []; ended = true }) t) (sym (run_over program labels others other_cursors other_schedule)) tt)
 
   -- from states that are together, whatever the schedules
   together_agree : (schedule other_schedule : List ℕ) (a b : State) → Together program labels code Relevant a b → TracesAgree labels observer (run_from program labels inputs a schedule) (run_from program labels others b other_schedule)
-  together_agree [] other_schedule a b (over cursors) = over_agree cursors [] other_schedule
-  together_agree (number ∷ schedule) other_schedule a b (over cursors) = over_agree cursors (number ∷ schedule) other_schedule
-  together_agree [] other_schedule a b (stand cursors pc ls ms xs ys s) =
-      let rest = run_from program labels others (with_thread cursors (frame_at labels.entry pc ms ys ∷ [])) other_schedule in
+  together_agree [] other_schedule a b (over cursors other_cursors) = over_agree cursors other_cursors [] other_schedule
+  together_agree (number ∷ schedule) other_schedule a b (over cursors other_cursors) = over_agree cursors other_cursors (number ∷ schedule) other_schedule
+  together_agree [] other_schedule a b (stand cursors other_cursors pc ls ms xs ys s) =
+      let rest = run_from program labels others (with_thread other_cursors (frame_at labels.entry pc ms ys ∷ [])) other_schedule in
       subst (λ t. TracesAgree labels observer t rest) (run_none program labels inputs cursors (frame_at labels.entry pc ls xs)) (unended_left labels observer (seen labels observer rest.events) rest.ended)
-  together_agree (number ∷ schedule) [] a b (stand cursors pc ls ms xs ys s) =
+  together_agree (number ∷ schedule) [] a b (stand cursors other_cursors pc ls ms xs ys s) =
       let rest = run_from program labels inputs (with_thread cursors (frame_at labels.entry pc ls xs ∷ [])) (number ∷ schedule) in
-      subst (λ t. TracesAgree labels observer rest t) (run_none program labels others cursors (frame_at labels.entry pc ms ys)) (unended_right labels observer (seen labels observer rest.events) rest.ended)
-  together_agree (number ∷ schedule) (other_number ∷ other_schedule) a b (stand cursors pc ls ms xs ys s) =
-      let both = both_step program labels code found typed natives Relevant closed inputs others agree cursors pc ls ms xs ys s in
+      subst (λ t. TracesAgree labels observer rest t) (run_none program labels others other_cursors (frame_at labels.entry pc ms ys)) (unended_right labels observer (seen labels observer rest.events) rest.ended)
+  together_agree (number ∷ schedule) (other_number ∷ other_schedule) a b (stand cursors other_cursors pc ls ms xs ys s) =
+      let both = both_step program labels code found typed natives Relevant closed inputs others agree cursors other_cursors pc ls ms xs ys s in
       let on = run_on program labels inputs (with_thread cursors (frame_at labels.entry pc ls xs ∷ [])) number schedule both.one (advanced_by_step program labels inputs cursors (frame_at labels.entry pc ls xs) number both.one both.steps) in
-      let other_on = run_on program labels others (with_thread cursors (frame_at labels.entry pc ms ys ∷ [])) other_number other_schedule both.other (advanced_by_step program labels others cursors (frame_at labels.entry pc ms ys) other_number both.other both.other_steps) in
-      subst (λ t. TracesAgree labels observer t (run_from program labels others (with_thread cursors (frame_at labels.entry pc ms ys ∷ [])) (other_number ∷ other_schedule))) on
+      let other_on = run_on program labels others (with_thread other_cursors (frame_at labels.entry pc ms ys ∷ [])) other_number other_schedule both.other (advanced_by_step program labels others other_cursors (frame_at labels.entry pc ms ys) other_number both.other both.other_steps) in
+      subst (λ t. TracesAgree labels observer t (run_from program labels others (with_thread other_cursors (frame_at labels.entry pc ms ys ∷ [])) (other_number ∷ other_schedule))) on
       (subst (λ t. TracesAgree labels observer (with_event both.one.event (run_from program labels inputs both.one.state schedule)) t) other_on
       (events_agree program labels observer Relevant shows both.one.event both.other.event (run_from program labels inputs both.one.state schedule) (run_from program labels others both.other.state other_schedule) both.events
       (together_agree schedule other_schedule both.one.state both.other.state both.together)))
@@ -134,12 +135,13 @@ start_together program labels Relevant plain =
     let cursors : List ℕ = replicate (length program.methods) 0 in
     let unset : List (Option (Value ℕ)) = replicate code.max_locals None in
     subst (λ o. Together program labels code Relevant (with_thread cursors (first_frame labels.entry o)) (with_thread cursors (first_frame labels.entry o))) (sym plain.found)
-    (stand cursors 0 unset unset [] []
+    (stand cursors cursors 0 unset unset [] []
     (record {
       shape = shape_at_start code;
       arrives = at_start;
       plain = plain.plain;
       flow = steps Entry n n (begins n refl) (stays n);
+      cursors_alike = record { count = refl; same = λ source pc uses relevant. refl };
       locals_alike = record {
         count = length-replicate code.max_locals None ∙ sym (length-replicate code.max_locals Unset);
         other_count = length-replicate code.max_locals None ∙ sym (length-replicate code.max_locals Unset);
@@ -153,16 +155,18 @@ start_together program labels Relevant plain =
 -- what is relevant isn't hidden, so inputs that agree for the observer are equal at its sources
 agree_on_relevant : (program : Program) (labels : Labels) (observer : ℕ) → Clean program labels observer → (inputs others : List SourceInput) → AgreeOnInputs labels observer inputs others
     → AgreeOnRelevant program labels (λ n. IsRelevant program labels observer (node (root labels) n)) inputs others
-agree_on_relevant program labels observer clean inputs others agree pc source flow callee is relevant place =
-    let level = source_label (label_of labels source) is in
+agree_on_relevant program labels observer clean inputs others agree source pc uses relevant place =
+    let callee = (cursor_callee program labels source (node (root labels) (RetVal pc)) uses).0 in
+    let flow = cursor_flow program labels source (node (root labels) (RetVal pc)) uses in
+    let level = source_label (label_of labels source) (cursor_callee program labels source (node (root labels) (RetVal pc)) uses).1 in
     let at : label_at program labels labels.entry pc ≡ Some (Source level.0) = label_of_callee program labels labels.entry pc source callee ∙ level.1 in
     let reached = reaches_else labels observer level.0 (λ missed. hidden_irrelevant program labels observer (node (root labels) (RetVal pc)) clean
-        (result (root labels) pc at_entry flow (ap (λ l. misses labels observer (brings l)) at ∙ missed)) relevant) in
+    (result (root labels) pc at_entry flow (ap (λ l. misses labels observer (brings l)) at ∙ missed)) relevant) in
     agree source (ap (λ l. reaches labels observer (source_level l)) level.1 ∙ reached) place
 
 pub clean_secure : (program : Program) (labels : Labels) → IsPlainProgram program labels → CleanForAll program labels → Secure program labels
 clean_secure program labels plain clean observer among inputs others agree schedule other_schedule =
     let Relevant : NodeKind → Type 0 = λ n. IsRelevant program labels observer (node (root labels) n) in
     together_agree program labels plain.code plain.found plain.typed plain.well_labelled.natives Relevant (relevant_by_data program labels observer) inputs others
-    (agree_on_relevant program labels observer (clean observer among) inputs others agree) observer (λ pc flow is. observed_relevant program labels observer (node (root labels) (Call pc)) (call (root labels) pc at_entry flow is))
+    (agree_on_relevant program labels observer (clean observer among) inputs others agree) observer (λ pc flow is. at_end (node (root labels) (Call pc)) (call (root labels) pc at_entry flow is))
     schedule other_schedule (start program labels) (start program labels) (start_together program labels Relevant plain)
