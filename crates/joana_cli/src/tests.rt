@@ -160,6 +160,23 @@ fn levels_decide(rt: HostRuntime) -> Result<(), Fail> {
 }
 
 #[test]
+fn each_sink_has_its_level(rt: HostRuntime) -> Result<(), Fail> {
+    let alloc = rt.alloc();
+    // a native secret(I)V before the others
+    let more = [0u8, 5, 1, 8, 0, 5, 0, 9, 0, 0];
+    let sinks = "\"Main.secret(I)V\" = \"high\"\n";
+    let policy = format!(in alloc; "{HEAD}{LABELS}{sinks}")?;
+    let public = check(alloc, policy.as_str(), "c", edited(alloc, 137, 2, &more)?)?;
+    assert_eq!(rt; public.status, Status::Done);
+    let turned =
+        "[sources]\n\"Main.get()I\" = \"high\"\n\"Main.secret()I\" = \"low\"\n[sinks]\n\"Main.show(I)V\" = \"low\"\n";
+    let policy = format!(in alloc; "{HEAD}{turned}{sinks}")?;
+    let secret = check(alloc, policy.as_str(), "c", edited(alloc, 137, 2, &more)?)?;
+    assert_eq!(rt; secret.status, Status::Refused);
+    Ok(())
+}
+
+#[test]
 fn other_classes_are_not_built(rt: HostRuntime) -> Result<(), Fail> {
     let alloc = rt.alloc();
     // an opcode outside plain code, an underflow, a local that isn't set, a return in the middle
@@ -186,6 +203,12 @@ fn other_classes_are_not_built(rt: HostRuntime) -> Result<(), Fail> {
     assert_eq!(rt; with_class(alloc, 131, 2, &[0, 2])?, NOT_BUILT);
     assert_eq!(rt; with_class(alloc, 139, 2, &[4, 8])?, NOT_BUILT);
     assert_eq!(rt; with_class(alloc, 205, 1, &[0, 0])?, NOT_BUILT);
+    // a second method with code: secret()V
+    let method = [
+        0u8, 5, 0, 8, 0, 5, 0, 11, 0, 1, 0, 12, 0, 0, 0, 13, 0, 0, 0, 0, 0, 0, 0, 1, 0xb1, 0, 0, 0,
+        0,
+    ];
+    assert_eq!(rt; with_class(alloc, 137, 2, &method)?, NOT_BUILT);
     Ok(())
 }
 
