@@ -3,8 +3,8 @@ use Rattle.std.proofs.Common.{◌≡◌, ◌⊎◌, ◌↔◌, ℕ, ◌+◌, ◌
 use Rattle.std.specs.Prelude.{nat_lt, slice_index}
 use Rattle.std.proofs.lemmas.Bool.Decides.{nat_tests}
 use Rattle.std.proofs.lemmas.Option.{cond_some, some_pair_parts}
-use Rattle.class_read.specs.declared.jo_insn.Insn.{Insn}
-use Rattle.class_read.specs.declared.jo_insn.Insn.TheVariants.{Plain, Local, Push, Pooled}
+use Rattle.jo_insn.specs.declared.instructions.Insn.{Insn}
+use Rattle.jo_insn.specs.declared.instructions.Insn.TheVariants.{Plain, Local, Push, Pooled}
 use Rattle.class_read.specs.declared.class_pool.PoolEntry.{PoolEntry}
 use Rattle.class_read.specs.Opcodes.{Operands, NoOperand, SignedByte, SignedShort, LocalByte, PoolShort, operands_of, signed_byte, signed_short, short_at, spelled_at, spelled_by, decoded}
 use Rattle.class_read.specs.ClassGrammar.{NamesWell, IsCodeFrom, ends, goes_on}

@@ -2,6 +2,4 @@ pub mod ClassLemmas
 pub mod CodeLemmas
 pub mod EntryLemmas
 pub mod Many
-pub mod NameSteps
 pub mod NumberLemmas
-pub mod TextLemmas

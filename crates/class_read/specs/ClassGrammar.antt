@@ -4,10 +4,10 @@
 use Rattle.std.specs.Prelude.{◌≡◌, ◌⊎◌, ℕ, zero, suc, ◌+◌, ◌^◌, ◌<◌, ◌≤◌, List, [], ◌∷◌, ◌++◌, length, Option, Some, None, IsSomeAnd, codes, bit_and, slice_get, Bool, true, false, not, ◌==◌}
 use Rattle.std.specs.List.{AllByRecursion}
 use Rattle.class_read.specs.Lists.{u2, u4, SpellsEach}
-use Rattle.class_read.specs.Text.{IsMemberName, IsFieldDesc, IsMethodDesc, IsClassOrArray, IsClassName}
+use Rattle.jo_text.specs.Descriptors.{IsMemberName, IsFieldDesc, IsMethodDesc, IsClassOrArray, IsClassName}
 use Rattle.class_read.specs.Opcodes.{decoded}
-use Rattle.class_read.specs.declared.jo_insn.Insn.{Insn}
-use Rattle.class_read.specs.declared.jo_insn.Insn.TheVariants.{Pooled}
+use Rattle.jo_insn.specs.declared.instructions.Insn.{Insn}
+use Rattle.jo_insn.specs.declared.instructions.Insn.TheVariants.{Pooled}
 use Rattle.class_read.specs.declared.class_pool.PoolEntry.{PoolEntry}
 use Rattle.class_read.specs.declared.class_pool.PoolEntry.TheVariants.{Utf8, Class, MethodRef, NameAndType}
 use Rattle.class_read.specs.declared.class_pool.ClassFile.{ClassFile}

@@ -1,7 +1,7 @@
 -- What the grammar asks of a class beyond its spelling. Private functions test these.
 use Rattle.std.specs.Prelude.{◌≡◌, ℕ, ◌^◌, ◌<◌, ◌≤◌, List, length, Option, Some, None, IsSomeAnd, false}
 use Rattle.std.specs.List.{AllByRecursion}
-use Rattle.class_read.specs.Text.{IsMemberName, IsMethodDesc, IsClassName}
+use Rattle.jo_text.specs.Descriptors.{IsMemberName, IsMethodDesc, IsClassName}
 use Rattle.class_read.specs.ClassGrammar.{utf8_at, class_name_at, RefersWell, IsCodeFrom, has_flag, synchronized_flag, HasBody}
 use Rattle.class_read.specs.declared.class_pool.PoolEntry.{PoolEntry}
 use Rattle.class_read.specs.declared.class_pool.ClassFile.{ClassFile}

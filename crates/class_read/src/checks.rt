@@ -1,15 +1,15 @@
 //! What the grammar asks of a class beyond its spelling.
 ghost use Rattle.std.specs.Prelude.{◌≡◌, ◌⊎◌, ◌↔◌, IsTrue, IsSomeAnd, false};
 ghost use Rattle.std.specs.List.{AllByRecursion};
-ghost use Rattle.class_read.specs.Text.{IsMemberName, IsFieldDesc, IsMethodDesc, IsClassOrArray, IsClassName};
+ghost use Rattle.jo_text.specs.Descriptors.{IsMemberName, IsFieldDesc, IsMethodDesc, IsClassOrArray, IsClassName};
 ghost use Rattle.class_read.specs.ClassGrammar.{entry_at, utf8_at, class_name_at, desc_of, IsClassRef, RefersWell, NamesWell, IsCodeFrom, has_flag, HasBody};
 ghost use Rattle.class_read.specs.Fitting.{CodeFits, BodyFits, MethodFits, ClassFits};
 
 use crate::class_pool::{
     ClassFile, CodeInfo, MethodInfo, PoolEntry, class_name_at, entry_at, utf8_at,
 };
-use crate::jo_insn::{Insn, decode};
-use crate::jo_text::{
+use jo_insn::{Insn, decode};
+use jo_text::{
     is_class_name, is_class_or_array, is_field_desc, is_member_name, is_method_desc,
 };
 

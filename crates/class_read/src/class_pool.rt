@@ -3,8 +3,8 @@ ghost use Rattle.std.specs.Prelude.{◌≡◌};
 ghost use Rattle.std.specs.Option.{option_copied};
 ghost use Rattle.class_read.specs.ClassGrammar.{entry_at, utf8_at, class_name_at};
 
-use crate::jo_ids::List;
-use crate::jo_text::Name;
+use jo_ids::List;
+use jo_text::Name;
 
 /// The constant pool. Its item k, counted from 0, has the index k + 1.
 pub type Pool = List<PoolEntry>;

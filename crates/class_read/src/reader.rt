@@ -7,8 +7,8 @@ ghost use Rattle.class_read.specs.declared.class_pool.ClassFile.{ClassFile};
 
 use crate::checks::class_fits;
 use crate::class_pool::{ClassFile, CodeInfo, MethodInfo, Pool, PoolEntry, utf8_at};
-use crate::jo_ids::{List, Memory};
-use crate::jo_text::Name;
+use jo_ids::{List, Memory};
+use jo_text::Name;
 use byteorder::{BigEndian, ByteOrder};
 use std::alloc::{AllocError, Global};
 

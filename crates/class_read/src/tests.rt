@@ -1,5 +1,5 @@
-use crate::jo_insn::{Insn, Operation, decode, operation_of};
-use crate::jo_text::{
+use jo_insn::{Insn, Operation, decode, operation_of};
+use jo_text::{
     is_class_name, is_class_or_array, is_field_desc, is_member_name, is_method_desc,
 };
 use crate::read_class;

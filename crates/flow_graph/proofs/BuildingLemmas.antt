@@ -1,7 +1,7 @@
 -- Lists of edges and tables of definitions as they grow.
 use Rattle.std.proofs.Common.{◌≡◌, ◌==◌, ℕ, cond, Bool, true, false, ◌&&◌, List, [], ◌∷◌, ◌++◌, Contains, refl, sym, ap, subst, ◌∙◌, arith, append_assoc}
 use Rattle.std.proofs.lemmas.List.{append-nil}
-use Rattle.class_read.specs.declared.jo_insn.Operation.{Operation}
+use Rattle.jo_prog.specs.declared.operations.Operation.{Operation}
 use Rattle.flow_graph.specs.declared.flow.Place.{Place}
 use Rattle.flow_graph.specs.declared.dep_nodes.EdgeKind.TheVariants.{Heap}
 use Rattle.flow_graph.specs.declared.dep_nodes.Edge.{Edge}

@@ -1,8 +1,8 @@
 -- Reaching definitions, control and the nodes of the dependence graph in plain code.
 use Rattle.std.proofs.Common.{◌≡◌, ◌≢◌, ◌⊎◌, inl, inr, ℕ, ◌+◌, ◌≤◌, cond, [], Option, Some, None, refl, sym, ap, subst, ◌∙◌, arith}
 use Rattle.std.proofs.lemmas.Bool.{false≢true, cond-true}
-use Rattle.class_read.specs.declared.jo_insn.Operation.{Operation}
-use Rattle.class_read.specs.declared.jo_insn.Operation.TheVariants.{Constant, Load, Store, Add, Subtract, InvokeStatic, Return, Other}
+use Rattle.jo_prog.specs.declared.operations.Operation.{Operation}
+use Rattle.jo_prog.specs.declared.operations.Operation.TheVariants.{Constant, Load, Store, Add, Subtract, InvokeStatic, Return, Other}
 use Rattle.jo_prog.specs.declared.program.Program.{Program}
 use Rattle.jo_prog.specs.declared.program.Code.{Code}
 use Rattle.jo_prog.specs.declared.labels.Labels.{Labels}

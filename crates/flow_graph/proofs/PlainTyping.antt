@@ -5,8 +5,8 @@ use Rattle.std.specs.List.{AllByRecursion}
 use Rattle.std.proofs.lemmas.Bool.{false≢true, and_parts, ltb-true, leb-true, eqb-true}
 use Rattle.std.proofs.lemmas.Option.{none-some, same_Some, some_pair_parts}
 use Rattle.std.proofs.lemmas.List.{length-replicate}
-use Rattle.class_read.specs.declared.jo_insn.Operation.{Operation}
-use Rattle.class_read.specs.declared.jo_insn.Operation.TheVariants.{Constant, Load, Store, Add, Subtract, InvokeStatic, Return, Other}
+use Rattle.jo_prog.specs.declared.operations.Operation.{Operation}
+use Rattle.jo_prog.specs.declared.operations.Operation.TheVariants.{Constant, Load, Store, Add, Subtract, InvokeStatic, Return, Other}
 use Rattle.jo_prog.specs.declared.program.Program.{Program}
 use Rattle.jo_prog.specs.declared.program.Method.{Method}
 use Rattle.jo_prog.specs.declared.program.Code.{Code}

@@ -4,7 +4,7 @@ use Rattle.std.proofs.lemmas.Bool.{false≢true}
 use Rattle.std.proofs.lemmas.Option.{none-some, same_Some}
 use Rattle.class_read.specs.Opcodes.{decoded, operation_of}
 use Rattle.class_read.specs.ClassGrammar.{has_flag, native_flag}
-use Rattle.class_read.specs.declared.jo_insn.Operation.TheVariants.{Constant, Load, Store, Add, InvokeStatic}
+use Rattle.jo_prog.specs.declared.operations.Operation.TheVariants.{Constant, Load, Store, Add, InvokeStatic}
 use Rattle.jo_prog.specs.declared.program.Method.{Method}
 use Rattle.jo_prog.specs.Labels.{label_of}
 use Rattle.jo_prog.specs.Program.{method_at}

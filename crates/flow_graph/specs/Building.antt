@@ -1,7 +1,7 @@
 -- What the walk over plain code adds to a graph, an instruction at a time.
 use Rattle.std.specs.Prelude.{◌≡◌, ℕ, ◌+◌, ◌-◌, ◌^◌, ◌<◌, Bool, true, false, ◌==◌, if◌then◌else◌, List, [], ◌∷◌, ◌++◌, length, replicate, Option, Some, None, Contains, slice_index_or}
-use Rattle.class_read.specs.declared.jo_insn.Operation.{Operation}
-use Rattle.class_read.specs.declared.jo_insn.Operation.TheVariants.{Constant, Load, Store, Add, Subtract, InvokeStatic, Return, Other}
+use Rattle.jo_prog.specs.declared.operations.Operation.{Operation}
+use Rattle.jo_prog.specs.declared.operations.Operation.TheVariants.{Constant, Load, Store, Add, Subtract, InvokeStatic, Return, Other}
 use Rattle.jo_prog.specs.declared.program.Program.{Program}
 use Rattle.jo_prog.specs.declared.program.Code.{Code}
 use Rattle.jo_prog.specs.Program.{code_at}

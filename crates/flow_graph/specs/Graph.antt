@@ -1,7 +1,7 @@
 -- The dependence graph of a program (after Horwitz, Reps and Binkley 1990; its nodes, edges and rules are this project's
 -- own), in its part for plain code: one instance, no object.
 use Rattle.std.specs.Prelude.{◌≡◌, ℕ, Bool, true, false, List, [], Option, Some, None}
-use Rattle.class_read.specs.declared.jo_insn.Operation.TheVariants.{Return}
+use Rattle.jo_prog.specs.declared.operations.Operation.TheVariants.{Return}
 use Rattle.jo_prog.specs.declared.program.Program.{Program}
 use Rattle.jo_prog.specs.declared.labels.Label.{Label}
 use Rattle.jo_prog.specs.declared.labels.Label.TheVariants.{Source, Sink}

@@ -1,7 +1,7 @@
 //! The graph itself: nodes and edges.
 
 use crate::flow::NodeKind;
-use class_read::jo_ids::{List, MethodId, NodeId, SiteId};
+use jo_ids::{List, MethodId, NodeId, SiteId};
 
 /// A context: at most two sites, the first `len` of the two.
 #[derive(Clone, Copy)]

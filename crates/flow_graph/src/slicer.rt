@@ -6,7 +6,7 @@ ghost use Rattle.flow_graph.specs.GraphData.{IsWalk, WalksTo, walk_end};
 ghost use Rattle.flow_graph.specs.Slices.{mark_at, is_marked, IsMarkedAt, distance_of, unmarked_count, IsMarking, OnlyGrows, IsClosedAt, HasEdgesInside, AreInside, HasNoStep, AreMarkedAs, FitsGraph, IsMarked, IsSliceOf, IsFirstWith};
 
 use crate::dep_nodes::{Chain, Edge, Graph, Step, Word};
-use class_read::jo_ids::{List, Memory, NodeId};
+use jo_ids::{List, Memory, NodeId};
 use std::alloc::{AllocError, Global};
 
 /// How a node comes to a criterion.

@@ -4,9 +4,9 @@ use Rattle.std.specs.Prelude.{option_map, slice_index}
 use Rattle.std.proofs.lemmas.Bool.{ltb-true}
 use Rattle.std.proofs.lemmas.Option.{none-some, some_pair_parts}
 use Rattle.class_read.specs.Opcodes.{operation_of, Operands, NoOperand, SignedByte, SignedShort, LocalByte, PoolShort, spelled_at, spelled_by, decoded, operands_of}
-use Rattle.class_read.specs.declared.jo_insn.Insn.{Insn}
-use Rattle.class_read.specs.declared.jo_insn.Insn.TheVariants.{Plain}
-use Rattle.class_read.specs.declared.jo_insn.Operation.{Operation}
+use Rattle.jo_insn.specs.declared.instructions.Insn.{Insn}
+use Rattle.jo_insn.specs.declared.instructions.Insn.TheVariants.{Plain}
+use Rattle.jo_prog.specs.declared.operations.Operation.{Operation}
 use Rattle.jo_prog.specs.declared.program.Program.{Program}
 use Rattle.jo_prog.specs.declared.program.Code.{Code}
 use Rattle.jo_prog.specs.Program.{as_operation, code_at, operation_in, operation_at, callee_of, callee_at}

@@ -1,6 +1,6 @@
 -- The state of a run whose one thread has one frame, whose values are ints, or has ended.
 use Rattle.std.specs.Prelude.{ℕ, ℤ, Bool, true, false, List, [], ◌∷◌, ◌++◌, map, reverse, Option, None, option_map}
-use Rattle.class_read.specs.declared.jo_insn.Operation.{Operation}
+use Rattle.jo_prog.specs.declared.operations.Operation.{Operation}
 use Rattle.jo_prog.specs.declared.labels.Label.{Label}
 use Rattle.jo_prog.specs.declared.runner.RunState.{RunState}
 use Rattle.jo_prog.specs.declared.runs.SourceInput.{SourceInput}

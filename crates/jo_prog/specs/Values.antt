@@ -2,9 +2,9 @@
 -- 2.11 and chapter 6). It looks at references through what stands at them, equality and null alone.
 use Rattle.std.specs.Prelude.{ℕ, ℤ, List, [], ◌∷◌, Option, Some, None}
 use Rattle.std.specs.Int.{w32, int_wrapping_add, int_wrapping_sub}
-use Rattle.class_read.specs.declared.jo_text.FieldDesc.{FieldDesc}
-use Rattle.class_read.specs.declared.jo_insn.Operation.{Operation}
-use Rattle.class_read.specs.declared.jo_insn.Operation.TheVariants.{Constant, Load, Store, Add, Subtract, Return}
+use Rattle.jo_text.specs.declared.descriptors.FieldDesc.{FieldDesc}
+use Rattle.jo_prog.specs.declared.operations.Operation.{Operation}
+use Rattle.jo_prog.specs.declared.operations.Operation.TheVariants.{Constant, Load, Store, Add, Subtract, Return}
 
 -- an int, null, or a reference
 pub data Value (A : Type 0) : Type 0 where

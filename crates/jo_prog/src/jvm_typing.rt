@@ -8,8 +8,8 @@ ghost use Rattle.jo_prog.specs.IntShapes.{shape_of};
 
 use crate::labels::{Label, Labels, label_of};
 use crate::program::{Code, Program, callee_of, code_at, method_at, operation_in};
-use class_read::jo_ids::{Memory, MethodId};
-use class_read::jo_insn::Operation;
+use jo_ids::{Memory, MethodId};
+use jo_insn::Operation;
 use std::alloc::Global;
 
 // ---- plain code

@@ -3,8 +3,8 @@
 ghost use Rattle.std.specs.Prelude.{◌≡◌};
 ghost use Rattle.jo_prog.specs.Labels.{flows, flows_by, label_of, label_among};
 
-use class_read::jo_ids::{LevelId, List, MethodId};
-use class_read::jo_text::Name;
+use jo_ids::{LevelId, List, MethodId};
+use jo_text::Name;
 
 /// What a native method is to the policy.
 #[derive(Clone, Copy)]

@@ -8,8 +8,8 @@ use crate::program::{Class, Code, MemberRef, Method, Operand, Program, TypeRef};
 use class_read::class_pool::{
     ClassFile, CodeInfo, MethodInfo, PoolEntry, class_name_at, entry_at, utf8_at,
 };
-use class_read::jo_ids::{ClassId, List, Memory, MethodId};
-use class_read::jo_text::Name;
+use jo_ids::{ClassId, List, Memory, MethodId};
+use jo_text::Name;
 use std::alloc::Global;
 
 pub(crate) fn add<T: Drop>(list: &mut List<T>, item: T) -> Result<(), Memory>

@@ -6,9 +6,9 @@ ghost use Rattle.class_read.specs.Opcodes.{decoded};
 ghost use Rattle.jo_prog.specs.Program.{as_operation, method_at, class_at, code_at, operation_at, first_with, resolve_operand, operand_at, callee_of, callee_at};
 ghost use Rattle.std.specs.Str.{bytes_eq};
 
-use class_read::jo_ids::{ClassId, FieldId, List, MethodId};
-use class_read::jo_insn::{Operation, decode, operation_of};
-use class_read::jo_text::{FieldDesc, Name};
+use jo_ids::{ClassId, FieldId, List, MethodId};
+use jo_insn::{Operation, decode, operation_of};
+use jo_text::{FieldDesc, Name};
 
 /// The classes in order, the prelude's first, and all their fields and methods.
 #[derive(Drop)]

@@ -1,7 +1,7 @@
 //! Runs a program: one thread, whose code calls labelled natives alone.
 ghost use Rattle.std.specs.Prelude.{◌≡◌, ℕ, ◌+◌, ◌<◌, ◌≤◌, ◌^◌, List, false, Some, All, IfOk, IfSome, IfNone, OnOk, ◌++◌, ◌∷◌, [], length, slice_get, slice_set, replicate, None};
 ghost use Rattle.std.specs.Option.{option_flatten, option_to_list};
-ghost use Rattle.class_read.specs.declared.jo_insn.Operation.TheVariants.{Constant, Load, Store, Add, Subtract, Return};
+ghost use Rattle.jo_prog.specs.declared.operations.Operation.TheVariants.{Constant, Load, Store, Add, Subtract, Return};
 ghost use Rattle.jo_prog.specs.declared.labels.Label.TheVariants.{Source, Sink, Release};
 ghost use Rattle.jo_prog.specs.declared.runs.SourceInput.{SourceInput};
 ghost use Rattle.jo_prog.specs.Labels.{label_of};
@@ -13,8 +13,8 @@ use crate::labels::{Label, Labels, label_of};
 use crate::linker::add;
 use crate::program::{Program, callee_of, code_at, operation_in};
 use crate::runs::{Event, Inputs, SourceInput, Trace};
-use class_read::jo_ids::{List, Memory, MethodId};
-use class_read::jo_insn::Operation;
+use jo_ids::{List, Memory, MethodId};
+use jo_insn::Operation;
 use std::alloc::Global;
 
 /// The state of a run: the frame of its one thread, and for each method how many ints it has given as a source.

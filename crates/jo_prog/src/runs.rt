@@ -1,6 +1,6 @@
 //! What goes into a run and what comes out of it.
 
-use class_read::jo_ids::{List, MethodId};
+use jo_ids::{List, MethodId};
 
 /// The ints that a source gives, in order; 0 for ever after the last.
 #[derive(Drop)]

@@ -14,8 +14,8 @@ use Rattle.flow_graph.specs.declared.dep_nodes.Edge.{Edge}
 use Rattle.flow_graph.specs.declared.dep_nodes.NodeName.{NodeName}
 use Rattle.flow_graph.specs.declared.dep_nodes.Graph.{Graph}
 use Rattle.flow_graph.specs.declared.dep_nodes.Chain.{Chain}
-use Rattle.class_read.specs.declared.jo_insn.Operation.{Operation}
-use Rattle.class_read.specs.declared.jo_insn.Operation.TheVariants.{Constant, Load, Store, Add, Subtract, InvokeStatic, Return, Other}
+use Rattle.jo_prog.specs.declared.operations.Operation.{Operation}
+use Rattle.jo_prog.specs.declared.operations.Operation.TheVariants.{Constant, Load, Store, Add, Subtract, InvokeStatic, Return, Other}
 use Rattle.flow_graph.specs.Flow.{IsFlowNode, ArgumentPlace, FlowEdge, begins, skips, falls, leaves, calls, arrives, Path, stays, steps, node_at, node_of}
 use Rattle.flow_graph.specs.Graph.{Instance, Node, node, IsNode, of_flow, of_argument, of_kind, of_thrown, IsReached, label_at}
 use Rattle.flow_graph.specs.Chains.{Link, end_of}

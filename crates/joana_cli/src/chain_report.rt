@@ -7,7 +7,7 @@ ghost use Rattle.joana_cli.specs.Report.{chain_text, level_name, spelled_word, s
 ghost use Rattle.joana_cli.specs.Spelling.{spelled_node};
 
 use crate::spelling;
-use class_read::jo_ids::{LevelId, NodeId};
+use jo_ids::{LevelId, NodeId};
 use flow_graph::dep_nodes::{Chain, EdgeKind, Graph, NodeName, Step, Word};
 use jo_prog::labels::Labels;
 use jo_prog::program::Program;

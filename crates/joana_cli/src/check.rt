@@ -11,7 +11,7 @@ ghost use Rattle.joana_cli.specs.FirstForm.{is_of_prelude, is_under_object};
 
 use crate::{jo_policy, low_run};
 use class_read::class_pool::{ClassFile, class_name_at};
-use class_read::jo_ids::MethodId;
+use jo_ids::MethodId;
 use class_read::read_class;
 use flow_graph::sdg;
 use jo_prog::labels::Labels;

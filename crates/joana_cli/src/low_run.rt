@@ -7,7 +7,7 @@ ghost use Rattle.joana_cli.specs.Outcome.{CleanForAll, Reports};
 ghost use Rattle.joana_cli.specs.Sides.{label_resolved, is_on, places_from, hidden_nodes, observed_nodes, IsForbiddenWalk};
 
 use crate::chain_report;
-use class_read::jo_ids::{LevelId, MethodId, NodeId};
+use jo_ids::{LevelId, MethodId, NodeId};
 use flow_graph::dep_nodes::{Chain, Graph, NodeName};
 use flow_graph::flow::NodeKind;
 use flow_graph::slicer;

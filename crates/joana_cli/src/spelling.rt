@@ -5,7 +5,7 @@ ghost use Rattle.flow_graph.specs.GraphData.{node_named};
 ghost use Rattle.jo_prog.specs.Program.{method_at, class_at};
 ghost use Rattle.joana_cli.specs.Spelling.{hex_digit as digit_of, is_escaped as must_escape, escaped_byte, escaped, class_name, spelled_in, spelled_method, numbered, spelled_kind, spelled_node};
 
-use class_read::jo_ids::{ClassId, Memory, MethodId};
+use jo_ids::{ClassId, Memory, MethodId};
 use flow_graph::dep_nodes::NodeName;
 use flow_graph::flow::NodeKind;
 use jo_prog::program::{Class, Method, Program};
@@ -159,8 +159,8 @@ pub fn push_node(
 #[cfg(test)]
 pub mod tests {
     use super::*;
-    use class_read::jo_ids::{Id, List};
-    use class_read::jo_text::Name;
+    use jo_ids::{Id, List};
+    use jo_text::Name;
     use flow_graph::dep_nodes::SiteList;
     use jo_prog::program::Code;
     use std::test::Fail;

@@ -1,6 +1,6 @@
 use Rattle.std.proofs.Common.{◌≡◌, ℕ, List, Some, length, true, sym, ap, ◌∙◌, subst}
 use Rattle.std.proofs.lemmas.Bool.{eqb-true, eq-eqb}
-use Rattle.class_read.specs.declared.jo_insn.Operation.{Operation}
+use Rattle.jo_prog.specs.declared.operations.Operation.{Operation}
 use Rattle.jo_prog.specs.Program.{operation_at}
 use Rattle.jo_prog.specs.PlainCode.{goes_on, last, then}
 use Rattle.jo_prog.proofs.Decoding.{operation_at-code, callee_at-found}

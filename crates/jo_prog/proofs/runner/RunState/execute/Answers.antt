@@ -1,5 +1,5 @@
 use Rattle.std.proofs.Common.{ap, ◌∙◌}
-use Rattle.class_read.specs.declared.jo_insn.Operation.{Operation}
+use Rattle.jo_prog.specs.declared.operations.Operation.{Operation}
 use Rattle.jo_prog.specs.Running.{executed}
 use Rattle.jo_prog.proofs.runner.RunState.execute.Goals as goal
 

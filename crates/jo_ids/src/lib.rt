@@ -1,4 +1,6 @@
 //! Lists that contracts see as lists, and numbers of things of one kind.
+#![tactic(auto)]
+
 ghost use Rattle.std.specs.Prelude.{◌≡◌, ◌++◌, ◌∷◌, [], IfErr, OnErr, OnOk};
 
 pub use std::alloc::AllocError as Memory;

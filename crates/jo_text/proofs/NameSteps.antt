@@ -1,7 +1,7 @@
 -- The loop over a class's name.
 use Rattle.std.proofs.Common.{◌≡◌, ℕ, ◌+◌, ◌<◌, ◌≤◌, Bool, false, cond, not, ◌==◌, List, length, get_or, drop}
 use Rattle.std.proofs.lemmas.List.{at_drop_more, at_drop_all}
-use Rattle.class_read.specs.TextScan.{breaks_name, names_on}
+use Rattle.jo_text.specs.Scan.{breaks_name, names_on}
 
 -- one step, and the end
 pub names_at : (empty : Bool) (bs : List ℕ) (i : ℕ) → i < length bs → names_on empty (drop i bs) ≡ cond (breaks_name empty (get_or bs i 0)) false (names_on (get_or bs i 0 == 47) (drop (i + 1) bs))

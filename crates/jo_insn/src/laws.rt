@@ -1,0 +1,16 @@
+//! Laws of the spelling of instructions.
+ghost use Rattle.std.specs.Prelude.{◌≡◌, ℕ, ◌+◌, ◌<◌, ◌^◌, ◌++◌, List, length, Ok};
+ghost use Rattle.std.specs.List.{AllByRecursion};
+ghost use Rattle.jo_insn.specs.Instructions.{IsInsn, spelled, decoded, IsReadAs};
+ghost use Rattle.jo_insn.specs.declared.instructions.Insn.{Insn};
+
+/// What is spelled at a pc is read there, whatever follows.
+pub fn spelled_is_decoded()
+    ensures { (front rest table : List ℕ) (insn : Insn) → IsInsn (length front) insn table
+        → decoded (front ++ spelled (length front) insn table ++ rest) (length front) ≡ Ok (insn, length front + length (spelled (length front) insn table)) }
+{}
+
+/// What is read at a pc is spelled there, but for the padding of a switch.
+pub fn decoded_is_spelled()
+    ensures { (code : List ℕ) (pc next : ℕ) (insn : Insn) → AllByRecursion (λ byte. byte < 2 ^ 8) code → decoded code pc ≡ Ok (insn, next) → IsReadAs code pc insn next }
+{}

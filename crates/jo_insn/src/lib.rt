@@ -1,0 +1,16 @@
+//! The instructions of the Java Virtual Machine that the profile has (JVM Specification SE 8, chapter 6): the table of
+//! opcodes, and how instructions are read from code and written.
+//!
+//! `laws` has what holds of the definitions: what is read is spelled so, and what is spelled so is read.
+#![tactic(auto)]
+
+mod decoder;
+mod encoder;
+mod instructions;
+pub mod laws;
+mod opcodes;
+
+pub use decoder::decode;
+pub use encoder::encode;
+pub use instructions::{Insn, InsnFault, Memory};
+pub use opcodes::{Operands, name_of, opcode_named, operands_of};

@@ -1,0 +1,54 @@
+//! Texts as lists of bytes.
+ghost use Rattle.std.specs.Prelude.{◌≡◌, ◌++◌, [], OnErr, OnOk};
+
+pub use std::alloc::AllocError as Memory;
+use std::alloc::Global;
+use std::marker::Model;
+
+/// A list of bytes: a name or a descriptor as a class file spells it, or another text.
+#[derive(Drop)]
+pub struct Name {
+    bytes: Vec<u8>,
+}
+
+impl Model for Name {
+    ghost use Rattle.std.specs.Prelude.{List as Items, ℕ};
+
+    ghost Value = { Items ℕ };
+
+    ghost view = { λ n. n.bytes.items };
+}
+
+impl Name {
+    /// The empty name. It takes no memory.
+    pub fn new(alloc: Global) -> Name
+        ensures { result ≡ [] }
+    {
+        Name {
+            bytes: Vec::new(alloc),
+        }
+    }
+
+    /// Adds the bytes at the end. A refusal leaves the name as it was.
+    pub fn append(&mut self, bytes: &[u8]) -> Result<(), Memory>
+        ensures ok { OnOk result (self.new ≡ self.old ++ bytes.now) }
+        ensures err { OnErr result (self.new ≡ self.old) }
+    {
+        self.bytes.extend_from_slice(bytes)
+    }
+
+    /// The bytes.
+    pub fn as_slice(&self) -> &[u8]
+        ensures { result.now ≡ self.now }
+    {
+        self.bytes.as_slice()
+    }
+}
+
+/// Why a text wasn't read.
+#[derive(Drop)]
+pub enum DescFault {
+    /// It isn't in the grammar.
+    Bad,
+    Memory,
+}
