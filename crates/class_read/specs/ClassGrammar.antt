@@ -1,13 +1,14 @@
 -- The grammar of class files (JVM Specification SE 8, 4.1 to 4.7), in its part with the pool tags 1, 7, 10 and 12, no
--- interfaces, fields, exception rows or attributes but one Code in each method that has code, and plain instructions.
+-- interfaces, fields, exception rows or attributes but one Code in each method that has code, and instructions that name
+-- no place in the code and nothing in the pool but the method of an invokestatic.
 -- It relates whole lists of bytes to classes.
-use Rattle.std.specs.Prelude.{◌≡◌, ◌⊎◌, ℕ, zero, suc, ◌+◌, ◌^◌, ◌<◌, ◌≤◌, List, [], ◌∷◌, ◌++◌, length, Option, Some, None, IsSomeAnd, codes, bit_and, slice_get, Bool, true, false, not, ◌==◌}
+use Rattle.std.specs.Prelude.{◌≡◌, ◌⊎◌, ℕ, zero, suc, ◌+◌, ◌^◌, ◌<◌, ◌≤◌, List, [], ◌∷◌, ◌++◌, length, Option, Some, None, Ok, IsSomeAnd, codes, bit_and, slice_get, Bool, true, false, not, ◌==◌}
 use Rattle.std.specs.List.{AllByRecursion}
 use Rattle.class_read.specs.Lists.{u2, u4, SpellsEach}
 use Rattle.jo_text.specs.Descriptors.{IsMemberName, IsFieldDesc, IsMethodDesc, IsClassOrArray, IsClassName}
-use Rattle.class_read.specs.Opcodes.{decoded}
+use Rattle.jo_insn.specs.Instructions.{decoded}
 use Rattle.jo_insn.specs.declared.instructions.Insn.{Insn}
-use Rattle.jo_insn.specs.declared.instructions.Insn.TheVariants.{Pooled}
+use Rattle.jo_insn.specs.declared.instructions.Insn.TheVariants.{Plain, Local, Iinc, Push, Pooled, Array, Jump, TableSwitch, LookupSwitch}
 use Rattle.class_read.specs.declared.class_pool.PoolEntry.{PoolEntry}
 use Rattle.class_read.specs.declared.class_pool.PoolEntry.TheVariants.{Utf8, Class, MethodRef, NameAndType}
 use Rattle.class_read.specs.declared.class_pool.ClassFile.{ClassFile}
@@ -66,15 +67,23 @@ RefersWell pool _ = ⊥
 
 -- ---- code
 
--- the pool entry that an instruction names is of the right kind
-abbrev pub NamesWell : List PoolEntry → Insn → Type 0
-NamesWell pool (Pooled op index) = IsSomeAnd (entry_at pool index) (λ e. (class : ℕ) × (type : ℕ) × (e ≡ MethodRef class type))
-NamesWell pool _ = Unit {0}
+-- the entry is a Methodref
+abbrev pub IsMethodRef : Option PoolEntry → Type 0
+IsMethodRef (Some (MethodRef class type)) = Unit {0}
+IsMethodRef _ = ⊥
+
+-- An instruction of this part: none that jumps, and invokestatic alone of those with a pool index.
+abbrev pub FitsPool : List PoolEntry → Insn → Type 0
+FitsPool pool (Pooled op index) = (op ≡ 184) × IsMethodRef (entry_at pool index)
+FitsPool pool (Jump op by) = ⊥
+FitsPool pool (TableSwitch other low high at) = ⊥
+FitsPool pool (LookupSwitch other pairs at) = ⊥
+FitsPool pool _ = Unit {0}
 
 -- from this pc on, the code is one instruction after another up to its end
 pub data IsCodeFrom (pool : List PoolEntry) (code : List ℕ) : ℕ → Type 0 where
   ends : (pc : ℕ) → pc ≡ length code → IsCodeFrom pool code pc
-  goes_on : (pc next : ℕ) (insn : Insn) → decoded code pc ≡ Some (insn, next) → NamesWell pool insn → IsCodeFrom pool code next → IsCodeFrom pool code pc
+  goes_on : (pc next : ℕ) (insn : Insn) → decoded code pc ≡ Ok (insn, next) → FitsPool pool insn → IsCodeFrom pool code next → IsCodeFrom pool code pc
 
 -- the bytes of the attribute Code, behind its name (JVMS 4.7.3)
 pub record SpellsCode (pool : List PoolEntry) (code : CodeInfo) (bytes : List ℕ) : Type 0 where

@@ -1,8 +1,8 @@
 //! What the grammar asks of a class beyond its spelling.
-ghost use Rattle.std.specs.Prelude.{◌≡◌, ◌⊎◌, ◌↔◌, IsTrue, IsSomeAnd, false};
+ghost use Rattle.std.specs.Prelude.{◌≡◌, ◌<◌, ◌^◌, ◌⊎◌, ◌↔◌, IsTrue, IsSomeAnd, false, length};
 ghost use Rattle.std.specs.List.{AllByRecursion};
 ghost use Rattle.jo_text.specs.Descriptors.{IsMemberName, IsFieldDesc, IsMethodDesc, IsClassOrArray, IsClassName};
-ghost use Rattle.class_read.specs.ClassGrammar.{entry_at, utf8_at, class_name_at, desc_of, IsClassRef, RefersWell, NamesWell, IsCodeFrom, has_flag, HasBody};
+ghost use Rattle.class_read.specs.ClassGrammar.{entry_at, utf8_at, class_name_at, desc_of, IsClassRef, RefersWell, FitsPool, IsCodeFrom, has_flag, HasBody};
 ghost use Rattle.class_read.specs.Fitting.{CodeFits, BodyFits, MethodFits, ClassFits};
 
 use crate::class_pool::{
@@ -105,26 +105,35 @@ fn all_refer_well(pool: &[PoolEntry]) -> bool
     true
 }
 
-/// Whether the pool entry that an instruction names is of the right kind.
-fn names_well(pool: &[PoolEntry], insn: Insn) -> bool
-    ensures { IsTrue result ↔ NamesWell pool.now insn }
+/// Whether the instruction is one of this part, with a pool entry of the right kind.
+fn fits_pool(pool: &[PoolEntry], insn: Insn) -> bool
+    ensures { IsTrue result ↔ FitsPool pool.now insn }
 {
     match insn {
-        Insn::Pooled { index, .. } => {
+        Insn::Pooled { op: 184, index } => {
             matches!(entry_at(pool, index), Some(PoolEntry::MethodRef(_, _)))
         }
-        _ => true,
+        Insn::Pooled { .. }
+        | Insn::Jump { .. }
+        | Insn::TableSwitch { .. }
+        | Insn::LookupSwitch { .. } => false,
+        Insn::Plain(_)
+        | Insn::Local { .. }
+        | Insn::Iinc { .. }
+        | Insn::Push { .. }
+        | Insn::Array(_) => true,
     }
 }
 
 /// Whether the code is one instruction after another up to its end.
 fn is_code(pool: &[PoolEntry], code: &[u8]) -> bool
+    requires { length code.now < 2 ^ 31 }
     ensures { IsTrue result ↔ IsCodeFrom pool.now code.now 0 }
 {
     let mut pc = 0;
-    while pc < code.len() {
+    while (pc as usize) < code.len() {
         match decode(code, pc) {
-            Some((insn, next)) if names_well(pool, insn) => pc = next,
+            Ok((insn, next)) if fits_pool(pool, insn) => pc = next,
             _ => return false,
         }
     }

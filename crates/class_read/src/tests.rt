@@ -1,7 +1,3 @@
-use jo_insn::{Insn, Operation, decode, operation_of};
-use jo_text::{
-    is_class_name, is_class_or_array, is_field_desc, is_member_name, is_method_desc,
-};
 use crate::read_class;
 use std::test::Fail;
 
@@ -59,7 +55,7 @@ fn no_byte_is_missing_and_none_is_left(rt: HostRuntime) -> Result<(), Fail> {
 fn one_byte_makes_it_no_class(rt: HostRuntime) -> Result<(), Fail> {
     // The place and its new byte: the magic number, the version, the pool's count, a tag, a character, the index of this
     // class, a synchronized method, a native method without its flag, the lengths of the attribute and of its code, an
-    // index that is no method's, an instruction that isn't built, and one that is cut off.
+    // index that is no method's, an opcode of a long, a jump, and an instruction that is cut off.
     let changes = [
         (0, 0xcb),
         (7, 53),
@@ -72,7 +68,8 @@ fn one_byte_makes_it_no_class(rt: HostRuntime) -> Result<(), Fail> {
         (176, 0x1a),
         (184, 0x0e),
         (187, 0x0d),
-        (195, 0x68),
+        (195, 0x61),
+        (195, 0xa7),
         (199, 0x10),
     ];
     assert!(rt; reads_with(&rt, 0, 0xca)?);
@@ -80,83 +77,4 @@ fn one_byte_makes_it_no_class(rt: HostRuntime) -> Result<(), Fail> {
         assert!(rt; !reads_with(&rt, place, byte)?, "{place}");
     }
     Ok(())
-}
-
-#[test]
-fn names_and_descriptors(rt: HostRuntime) {
-    // a text, and whether it is a member's name, a class's name, a field descriptor, a method descriptor, and what a
-    // Class entry may name
-    let texts = [
-        ("main", true, true, false, false, true),
-        ("<init>", true, true, false, false, true),
-        ("java/lang/Object", false, true, false, false, true),
-        ("a//b", false, false, false, false, false),
-        ("/a", false, false, false, false, false),
-        ("a/", false, false, false, false, false),
-        ("", false, false, false, false, false),
-        ("a.b", false, false, false, false, false),
-        ("a:b", false, true, false, false, true),
-        ("I", true, true, true, false, true),
-        ("V", true, true, false, false, true),
-        ("[[I", false, false, true, false, true),
-        ("[", false, false, false, false, false),
-        ("II", true, true, false, false, true),
-        ("Ljava/lang/String;", false, false, true, false, false),
-        ("[Ljava/lang/String;", false, false, true, false, true),
-        ("L;", false, false, false, false, false),
-        ("La//b;", false, false, false, false, false),
-        ("La;b", false, false, false, false, false),
-        ("()V", false, true, false, true, true),
-        (
-            "(IJ[[Ljava/lang/String;)D",
-            false,
-            false,
-            false,
-            true,
-            false,
-        ),
-        ("(V)I", false, true, false, false, true),
-        ("()VV", false, true, false, false, true),
-        ("()", false, true, false, false, true),
-        ("(I", false, true, false, false, true),
-    ];
-    for (text, member, class, field, method, entry) in texts {
-        let bytes = text.as_bytes();
-        assert_eq!(rt; is_member_name(bytes), member, "{text}");
-        assert_eq!(rt; is_class_name(bytes), class, "{text}");
-        assert_eq!(rt; is_field_desc(bytes), field, "{text}");
-        assert_eq!(rt; is_method_desc(bytes), method, "{text}");
-        assert_eq!(rt; is_class_or_array(bytes), entry, "{text}");
-    }
-    let mut array = [b'['; 257];
-    array[256] = b'I';
-    assert!(rt; is_field_desc(&array[1..]));
-    assert!(rt; !is_field_desc(&array));
-}
-
-#[test]
-fn instructions(rt: HostRuntime) {
-    assert!(rt;
-        matches!(
-            decode(&[0x10, 0xff], 0),
-            Some((Insn::Push { op: 16, value: -1 }, 2))
-        )
-    );
-    assert!(rt;
-        matches!(
-            decode(&[0x11, 0x80, 0x00], 0),
-            Some((
-                Insn::Push {
-                    op: 17,
-                    value: -32768
-                },
-                3
-            ))
-        )
-    );
-    assert!(rt; decode(&[0x11, 0x80], 0).is_none());
-    assert!(rt; decode(&[0x68], 0).is_none());
-    assert!(rt; matches!(operation_of(Insn::Plain(2)), Operation::Constant(-1)));
-    assert!(rt; matches!(operation_of(Insn::Plain(27)), Operation::Load(1)));
-    assert!(rt; matches!(operation_of(Insn::Plain(62)), Operation::Store(3)));
 }

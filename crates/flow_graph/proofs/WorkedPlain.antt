@@ -2,7 +2,9 @@
 use Rattle.std.proofs.Common.{◌≡◌, ℕ, zero, suc, true, [], ◌∷◌, Some, None, IsSome, refl, ap, ◌∙◌, arith, rules, pos}
 use Rattle.std.proofs.lemmas.Bool.{false≢true}
 use Rattle.std.proofs.lemmas.Option.{none-some, same_Some}
-use Rattle.class_read.specs.Opcodes.{decoded, operation_of}
+use Rattle.jo_insn.specs.Opcodes.{opcodes, row_of}
+use Rattle.jo_insn.specs.Instructions.{decoded}
+use Rattle.jo_prog.specs.Operations.{operation_of}
 use Rattle.class_read.specs.ClassGrammar.{has_flag, native_flag}
 use Rattle.jo_prog.specs.declared.operations.Operation.TheVariants.{Constant, Load, Store, Add, InvokeStatic}
 use Rattle.jo_prog.specs.declared.program.Method.{Method}
@@ -41,15 +43,15 @@ abbrev shape_14 : Shape
 shape_14 = record { locals = Int ∷ Int ∷ []; stack = [] }
 
 worked_arrives : Arrives worked_program 3 worked_code 14 shape_14
-unfolding decoded operation_of
+unfolding opcodes row_of decoded operation_of
 worked_arrives = by_step 11 14 shape_11 (record { next = Some 14; shape = shape_14 }) (by_step 10 11 shape_10 (record { next = Some 11; shape = shape_11 }) (by_step 9 10 shape_9 (record { next = Some 10; shape = shape_10 }) (by_step 8 9 shape_8 (record { next = Some 9; shape = shape_9 }) (by_step 7 8 shape_7 (record { next = Some 8; shape = shape_8 }) (by_step 4 7 shape_4 (record { next = Some 7; shape = shape_7 }) (by_step 3 4 shape_3 (record { next = Some 4; shape = shape_4 }) (by_step 0 3 shape_0 (record { next = Some 3; shape = shape_3 }) (at_start) refl refl) refl refl) refl refl) refl refl) refl refl) refl refl) refl refl) refl refl
 
 worked_typed : IsTypedCode worked_program 3 worked_code
-unfolding decoded operation_of
+unfolding opcodes row_of decoded operation_of
 worked_typed = typed_from_end worked_program 3 worked_code (record { next = None; shape = shape_14 }) worked_arrives refl refl
 
 worked_line : IsPlainFrom worked_program worked_labels 3 worked_code 0
-unfolding decoded operation_of
+unfolding opcodes row_of decoded operation_of
 worked_line = then 0 3 (InvokeStatic 14) refl refl (then 3 4 (Store 0) refl refl (then 4 7 (InvokeStatic 16) refl refl (then 7 8 (Store 1) refl refl (then 8 9 (Load 0) refl refl (then 9 10 (Constant (pos 1)) refl refl (then 10 11 Add refl refl (then 11 14 (InvokeStatic 18) refl refl (last 14 15 refl refl))))))))
 
 each_native : (m : ℕ) (method : Method) → method_at worked_program m ≡ Some method → has_flag native_flag method.flags ≡ true → IsSome (label_of worked_labels m)

@@ -1,5 +1,6 @@
 -- The instructions of the profile: how each is spelled at a pc, and what stands at a pc of some code
--- (JVM Specification SE 8, 4.9.1 and 6.5). Which faults there are, and which of two comes first, is this project's own.
+-- (JVM Specification SE 8, 4.9.1 and 6.5). This project's own: which faults there are, and which of two comes first; and
+-- that the padding of switches and the count and zero behind the index of an invokeinterface may be any bytes.
 use Rattle.std.specs.Prelude.{◌≡◌, ℕ, zero, suc, ◌+◌, ◌-◌, ◌*◌, ◌%◌, ◌^◌, ◌<◌, ◌≤◌, Bool, true, false, ◌&&◌, nat_lt, nat_le, ◌==◌, if◌then◌else◌, ℤ, pos, ◌-ℤ◌, ◌+ℤ◌, ◌≤ℤ◌, int_lt, unsigned_abs, List, [], ◌∷◌, ◌++◌, length, take, drop, replicate, Option, Some, None, Result, Ok, Err}
 use Rattle.std.specs.Int.{Width, w8, w16, w32, cast_unsigned}
 use Rattle.std.specs.Int.RustNames.{FitsSigned}
@@ -75,7 +76,7 @@ CanPush (Some SignedByte) value = FitsSigned w8 value
 CanPush (Some SignedShort) value = FitsSigned w16 value
 CanPush _ value = ⊥
 
--- Behind the index of an invokeinterface stand two bytes that mean nothing.
+-- behind the index of an invokeinterface stand two bytes, a count and a zero in the specification
 abbrev pub CanName : Option Operands → ℕ → List ℕ → Type 0
 CanName (Some PoolByte) index table = (index < 2 ^ 8) × (table ≡ [])
 CanName (Some PoolShort) index table = (index < 2 ^ 16) × (table ≡ [])

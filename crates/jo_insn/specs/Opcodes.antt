@@ -1,6 +1,6 @@
 -- The opcodes of the profile: number, name, and how the operands are spelled (JVM Specification SE 8, 6.5).
 -- Decoding, encoding and every text that names an opcode go by this one table.
--- No instruction that may throw writes a local: the definitions that reach a place rest on it.
+-- No instruction that may throw writes a local: reaching definitions rest on it.
 use Rattle.std.specs.Prelude.{ℕ, Bool, ◌==◌, if◌then◌else◌, List, [], ◌∷◌, Option, Some, None, option_map, codes}
 use Rattle.std.specs.Str.{bytes_eq}
 use Rattle.jo_insn.specs.declared.opcodes.Operands.{Operands}

@@ -50,7 +50,7 @@ pub enum Insn {
 pub enum InsnFault {
     /// The code ends before the instruction does.
     Cut,
-    /// No opcode has this number.
+    /// The number is past 201, the last opcode of an instruction.
     Unknown(u8),
     /// The profile leaves this opcode out, or what this opcode asks for.
     Outside(u8),

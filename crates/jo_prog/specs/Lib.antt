@@ -1,4 +1,5 @@
 pub mod Labels
+pub mod Operations
 pub mod Program
 pub mod Linking
 pub mod Typing
@@ -9,3 +10,4 @@ pub mod PlainCode
 pub mod IntShapes
 pub mod Worked
 pub mod Running
+pub mod Spelling

@@ -1,10 +1,12 @@
 -- What stands in a program: the instruction at a pc, and the method that it names.
-use Rattle.std.specs.Prelude.{ℕ, Bool, false, ◌&&◌, if◌then◌else◌, List, [], ◌∷◌, Option, Some, None, option_and_then, option_map, slice_get}
+use Rattle.std.specs.Prelude.{ℕ, ◌^◌, Bool, false, ◌&&◌, nat_lt, if◌then◌else◌, List, [], ◌∷◌, length, Option, Some, None, Result, Ok, Err, option_and_then, option_map, slice_get}
 use Rattle.std.specs.Str.{bytes_eq}
-use Rattle.class_read.specs.Opcodes.{decoded, operation_of}
+use Rattle.jo_insn.specs.Instructions.{decoded}
 use Rattle.jo_insn.specs.declared.instructions.Insn.{Insn}
+use Rattle.jo_insn.specs.declared.instructions.InsnFault.{InsnFault}
 use Rattle.jo_prog.specs.declared.operations.Operation.{Operation}
 use Rattle.jo_prog.specs.declared.operations.Operation.TheVariants.{InvokeStatic}
+use Rattle.jo_prog.specs.Operations.{operation_of}
 use Rattle.jo_prog.specs.declared.program.Program.{Program}
 use Rattle.jo_prog.specs.declared.program.Class.{Class}
 use Rattle.jo_prog.specs.declared.program.Method.{Method}
@@ -24,12 +26,14 @@ abbrev pub code_at : Program → ℕ → Option Code
 code_at program m = option_and_then (λ (method : Method). method.code) (method_at program m)
 
 -- what the instruction at a pc of a method does, and the next pc
-abbrev pub as_operation : Insn × ℕ → Operation × ℕ
-as_operation found = (operation_of found.0, found.1)
+abbrev pub as_operation : Result (Insn × ℕ) InsnFault → Option (Operation × ℕ)
+as_operation (Ok found) = Some (operation_of found.0, found.1)
+as_operation (Err fault) = None
 
+-- code has fewer than 65,536 bytes (JVMS 4.7.3), so longer code has no instructions
 abbrev pub operation_in : Option Code → ℕ → Option (Operation × ℕ)
 operation_in None pc = None
-operation_in (Some code) pc = option_map as_operation (decoded code.bytes pc)
+operation_in (Some code) pc = if nat_lt (length code.bytes) (2 ^ 16) then as_operation (decoded code.bytes pc) else None
 
 abbrev pub operation_at : Program → ℕ → ℕ → Option (Operation × ℕ)
 operation_at program m pc = operation_in (code_at program m) pc

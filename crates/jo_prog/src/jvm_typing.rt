@@ -9,7 +9,7 @@ ghost use Rattle.jo_prog.specs.IntShapes.{shape_of};
 use crate::labels::{Label, Labels, label_of};
 use crate::program::{Code, Program, callee_of, code_at, method_at, operation_in};
 use jo_ids::{Memory, MethodId};
-use jo_insn::Operation;
+use crate::operations::Operation;
 use std::alloc::Global;
 
 // ---- plain code

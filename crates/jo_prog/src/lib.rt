@@ -5,8 +5,10 @@ pub mod jvm_typing;
 pub mod labels;
 pub mod laws;
 pub mod linker;
+pub mod operations;
 pub mod program;
 pub mod runner;
 pub mod runs;
+pub mod spelling;
 #[cfg(test)]
 mod tests;

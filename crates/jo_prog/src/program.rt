@@ -2,13 +2,16 @@
 
 ghost use Rattle.std.specs.Prelude.{◌≡◌, ℕ, ◌+◌, ◌<◌, ◌^◌, ◌≤◌, option_map, Some, IfSome, length, ◌&&◌};
 ghost use Rattle.std.specs.Option.{option_copied};
-ghost use Rattle.class_read.specs.Opcodes.{decoded};
-ghost use Rattle.jo_prog.specs.Program.{as_operation, method_at, class_at, code_at, operation_at, first_with, resolve_operand, operand_at, callee_of, callee_at};
+ghost use Rattle.jo_prog.specs.Program.{method_at, class_at, code_at, operation_in, operation_at, first_with, resolve_operand, operand_at, callee_of, callee_at};
 ghost use Rattle.std.specs.Str.{bytes_eq};
 
 use jo_ids::{ClassId, FieldId, List, MethodId};
-use jo_insn::{Operation, decode, operation_of};
+use crate::operations::{Operation, operation_of};
+use jo_insn::decode;
 use jo_text::{FieldDesc, Name};
+
+/// How many bytes code has at most.
+const LONGEST_CODE: usize = 65_535;
 
 /// The classes in order, the prelude's first, and all their fields and methods.
 #[derive(Drop)]
@@ -88,13 +91,15 @@ pub enum Operand {
     Member(MemberRef),
 }
 
-pub(crate) fn method_at(program: &Program, method: MethodId) -> Option<&Method>
+/// The method with that number, if the program has it.
+pub fn method_at(program: &Program, method: MethodId) -> Option<&Method>
     ensures { option_copied result ≡ method_at program.now method }
 {
     program.methods.as_slice().get(method.number() as usize)
 }
 
-fn class_at(program: &Program, class: ClassId) -> Option<&Class>
+/// The class with that number, if the program has it.
+pub fn class_at(program: &Program, class: ClassId) -> Option<&Class>
     ensures { option_copied result ≡ class_at program.now class }
 {
     program.classes.as_slice().get(class.number() as usize)
@@ -109,18 +114,23 @@ pub fn code_at(program: &Program, method: MethodId) -> Option<&Code>
 
 /// What the instruction at a pc of this code does, and the pc behind it.
 pub(crate) fn operation_in(code: &Code, pc: usize) -> Option<(Operation, usize)>
-    ensures value { result ≡ option_map as_operation (decoded code.now.bytes pc) }
+    ensures value { result ≡ operation_in (Some code.now) pc }
     ensures above { IfSome result (λ found. pc < found.1) }
-    ensures near { IfSome result (λ found. found.1 ≤ pc + 3) }
     ensures inside { IfSome result (λ found. found.1 ≤ length code.now.bytes) }
+    ensures short { IfSome result (λ found. found.1 < 2 ^ 16) }
 {
-    let (insn, next) = decode(code.bytes.as_slice(), pc)?;
-    Some((operation_of(insn), next))
+    let bytes = code.bytes.as_slice();
+    if bytes.len() > LONGEST_CODE || pc >= bytes.len() {
+        return None;
+    }
+    match decode(bytes, pc as u32) {
+        Ok((insn, next)) => Some((operation_of(insn), next as usize)),
+        Err(_) => None,
+    }
 }
 
-/// What the instruction at a pc of a method does, and the pc behind it. `None` where no instruction of plain code stands.
+/// What the instruction at a pc of a method does, and the pc behind it. `None` where no instruction stands.
 pub fn operation_at(program: &Program, method: MethodId, pc: u32) -> Option<(Operation, u32)>
-    requires { pc + 3 < 2 ^ 32 }
     ensures { result ≡ operation_at program.now method pc }
 {
     let (operation, next) = operation_in(code_at(program, method)?, pc as usize)?;

@@ -14,7 +14,7 @@ use crate::linker::add;
 use crate::program::{Program, callee_of, code_at, operation_in};
 use crate::runs::{Event, Inputs, SourceInput, Trace};
 use jo_ids::{List, Memory, MethodId};
-use jo_insn::Operation;
+use crate::operations::Operation;
 use std::alloc::Global;
 
 /// The state of a run: the frame of its one thread, and for each method how many ints it has given as a source.

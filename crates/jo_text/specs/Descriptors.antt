@@ -1,5 +1,6 @@
--- Names and descriptors (JVM Specification SE 8, 4.2.1, 4.2.2, 4.3.2, 4.3.3, 4.4.1). That a member's name has no
--- `(` and no `:` is this project's own rule.
+-- Names and descriptors (JVM Specification SE 8, 4.2.1, 4.2.2, 4.3.2, 4.3.3, 4.4.1). This project's own are three
+-- departures: a member's name has no `(` and no `:`, `<` and `>` may stand in any, and a method may have more than 255
+-- words of arguments.
 use Rattle.std.specs.Prelude.{◌≡◌, ◌⊎◌, ℕ, ◌<◌, ◌≤◌, Bool, false, ◌==◌, List, [], ◌∷◌, ◌++◌, length, replicate, Option, Some, None, codes}
 use Rattle.std.specs.List.{list_any, flat_map, AllByRecursion}
 use Rattle.jo_text.specs.declared.descriptors.Base.{Base}

@@ -5,8 +5,9 @@ use Rattle.jo_prog.specs.declared.program.Program.{Program}
 use Rattle.jo_prog.specs.declared.labels.Labels.{Labels}
 use Rattle.joana_cli.specs.Words.{CheckNames, paths_of, accepted_text}
 use Rattle.joana_cli.specs.FirstForm.{Held, AreTold, IsInput, IsFirstForm}
-use Rattle.joana_cli.specs.Outcome.{FilesAfter, OutAfter, OutAfterText, SaysOf, WordsSay, TookAll, TookPart, IsReportText, Reports}
-use Rattle.joana_cli.proofs.CleanRuns.{clean_secure}
+use Rattle.joana_cli.specs.Outcome.{FilesAfter, OutAfter, OutAfterText, SaysOf, WordsSay, TookAll, TookPart, IsReportText}
+use Rattle.low_run.specs.Verdict.{Reports}
+use Rattle.low_run.proofs.CleanRuns.{clean_secure}
 use Rattle.joana_cli.specs.Decision.{Decides, OutAfterDecision}
 use Rattle.joana_cli.specs.Input.{Holds, ReadsInput}
 use Rattle.joana_cli.specs.declared.input.InputFiles.{InputFiles}

@@ -21,12 +21,12 @@ use Rattle.jo_prog.specs.Linking.{program_of, method_of, code_of}
 use Rattle.jo_prog.specs.Typing.{IsTypedCode}
 use Rattle.jo_prog.specs.PlainCode.{IsWellLabelled, IsPlainProgram}
 use Rattle.flow_graph.specs.Building.{HasShortCode}
-use Rattle.joana_cli.specs.PolicyFile.{policy_of}
+use Rattle.jo_policy.specs.PolicyFile.{policy_of}
 use Rattle.joana_cli.specs.Decision.{MakesProgram, IsFormOf, IsVerdict, Decides}
 use Rattle.joana_cli.specs.declared.check.Decision.{Decision}
 use Rattle.joana_cli.specs.declared.check.Decision.TheVariants.{NotBuilt, Accepted, Refused}
 use Rattle.joana_cli.specs.FirstForm.{is_of_prelude, is_under_object, IsFirstForm}
-use Rattle.joana_cli.proofs.Verdicts.{true_not_false}
+use Rattle.low_run.proofs.Verdicts.{true_not_false}
 
 pub read_at : {X : Type 0} (xs : List X) (i : ℕ) (x : X) → i < length xs → x ≡ get_or xs i x → slice_get xs i ≡ Some x
 read_at xs i x below at = slice_get_read xs (length xs) i x refl below at

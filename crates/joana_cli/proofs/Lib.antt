@@ -1,17 +1,3 @@
-pub mod Agreement
-pub mod AlikeRuns
-pub mod AlikeValues
 pub mod Answering
-pub mod CleanRuns
 pub mod Forms
-pub mod LeakRuns
-pub mod NeverStuck
-pub mod PolicyLabels
-pub mod PolicyParts
-pub mod PolicyReads
-pub mod PolicySteps
 pub mod Reading
-pub mod Relevance
-pub mod ReportLines
-pub mod Sides
-pub mod Verdicts

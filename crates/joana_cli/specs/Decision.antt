@@ -12,7 +12,8 @@ use Rattle.jo_prog.specs.declared.program.Program.{Program}
 use Rattle.jo_prog.specs.declared.labels.Labels.{Labels}
 use Rattle.joana_cli.specs.FirstForm.{IsFirstForm, is_of_prelude, is_under_object}
 use Rattle.joana_cli.specs.Words.{accepted_text}
-use Rattle.joana_cli.specs.Outcome.{CleanForAll, Reports, TookNothing, OutAfterText}
+use Rattle.joana_cli.specs.Outcome.{TookNothing, OutAfterText}
+use Rattle.low_run.specs.Verdict.{CleanForAll, Reports}
 use Rattle.joana_cli.specs.declared.status.Status.{Status}
 use Rattle.joana_cli.specs.declared.status.Status.TheVariants.{Done, Refused as RefusedStatus, Input, Outside}
 use Rattle.joana_cli.specs.declared.status.InputFault.TheVariants.{NotBuilt as NotBuiltFault}

@@ -12,7 +12,7 @@ use Rattle.jo_prog.specs.declared.labels.Labels.{Labels}
 use Rattle.jo_prog.specs.Program.{method_at}
 use Rattle.jo_prog.specs.Linking.{program_of, this_name, super_name, object_name, prelude_names}
 use Rattle.jo_prog.specs.PlainCode.{IsPlainProgram}
-use Rattle.joana_cli.specs.PolicyFile.{policy_of}
+use Rattle.jo_policy.specs.PolicyFile.{policy_of}
 use Rattle.joana_cli.specs.Words.{CheckNames, paths_of}
 
 -- the class is no class of the prelude, and its superclass is java/lang/Object

@@ -1,13 +1,5 @@
-pub mod Verdict
-pub mod Security
-pub mod Spelling
-pub mod PolicyFile
-pub mod Report
 pub mod Words
 pub mod FirstForm
 pub mod Outcome
 pub mod Input
 pub mod Decision
-pub mod Sides
-pub mod Leak
-pub mod RunStates

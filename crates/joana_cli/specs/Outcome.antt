@@ -5,11 +5,8 @@ use Rattle.jo_io.specs.Counts.{Rose}
 use Rattle.jo_io.specs.Sink.{Extends, ExtendsByPrefix}
 use Rattle.jo_prog.specs.declared.program.Program.{Program}
 use Rattle.jo_prog.specs.declared.labels.Labels.{Labels}
-use Rattle.flow_graph.specs.Graph.{Node}
-use Rattle.flow_graph.specs.Chains.{Link}
-use Rattle.joana_cli.specs.Verdict.{IllegalChain, Clean}
-use Rattle.joana_cli.specs.Security.{Secure}
-use Rattle.joana_cli.specs.Report.{chain_text}
+use Rattle.low_run.specs.Verdict.{CleanForAll, Reports}
+use Rattle.low_run.specs.Security.{Secure}
 use Rattle.joana_cli.specs.Words.{CheckNames, paths_of, words_line, not_built_line, file_line, output_line, accepted_text}
 use Rattle.joana_cli.specs.FirstForm.{Held, AreTold, IsInput}
 use Rattle.joana_cli.specs.declared.status.Status.{Status}
@@ -89,21 +86,6 @@ OutAfterText text status (Outside Output) old_given new_given old new = TookPart
 OutAfterText text status result old_given new_given old new = (result ≡ status) × TookAll old_given new_given old new text
 
 -- ---- the verdict
-
--- no observer has an illegal chain
-abbrev pub CleanForAll : Program → Labels → Type 0
-CleanForAll program labels = (observer : ℕ) → Contains labels.observers observer → Clean program labels observer
-
--- the observers before this one are clean, and this one has an illegal chain, which the text reports
-pub record Reports (program : Program) (labels : Labels) (text : List ℕ) : Type 0 where
-  pub place : ℕ
-  pub observer : ℕ
-  pub observer_at : slice_get labels.observers place ≡ Some observer
-  pub earlier : (k l : ℕ) → k < place → slice_get labels.observers k ≡ Some l → Clean program labels l
-  pub from : Node
-  pub links : List Link
-  pub illegal : IllegalChain program labels observer from links
-  pub text_is : text ≡ chain_text program labels observer from links
 
 -- what each answer says of the files' program
 abbrev pub Says : Held → CheckNames → Status → Option (List ℕ) → Option (List ℕ) → Type 0

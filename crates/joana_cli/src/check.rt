@@ -9,14 +9,15 @@ ghost use Rattle.flow_graph.specs.Building.{HasShortCode};
 ghost use Rattle.joana_cli.specs.Decision.{Decides, MakesProgram, HasOneCode, IsFormOf, IsVerdict};
 ghost use Rattle.joana_cli.specs.FirstForm.{is_of_prelude, is_under_object};
 
-use crate::{jo_policy, low_run};
 use class_read::class_pool::{ClassFile, class_name_at};
 use jo_ids::MethodId;
 use class_read::read_class;
 use flow_graph::sdg;
+use jo_policy::read_policy;
 use jo_prog::labels::Labels;
 use jo_prog::program::{Method, Program};
 use jo_prog::{jvm_typing, linker};
+use low_run::refusal;
 use std::alloc::{AllocError as Memory, Global};
 
 /// The flag ACC_NATIVE of a method.
@@ -146,7 +147,7 @@ fn verdict(alloc: Global, program: &Program, labels: &Labels) -> Result<Decision
     ensures { IfOk result (IsVerdict program.now labels.now) }
 {
     let graph = sdg::build(alloc, program, labels)?;
-    match low_run::refusal(alloc, program, labels, &graph)? {
+    match refusal(alloc, program, labels, &graph)? {
         Some(text) => Ok(Decision::Refused(text)),
         None => Ok(Decision::Accepted),
     }
@@ -160,7 +161,7 @@ pub fn decide(alloc: Global, class: &[u8], policy: &[u8]) -> Result<Decision, Me
         Some(program) => program,
         None => return Ok(Decision::NotBuilt),
     };
-    let labels = match jo_policy::read_policy(alloc, policy, &program)? {
+    let labels = match read_policy(alloc, policy, &program)? {
         Some(labels) => labels,
         None => return Ok(Decision::NotBuilt),
     };

@@ -1,14 +1,11 @@
 //! The program `joana`: an information flow checker for Java class files.
 #![tactic(auto)]
 
-mod chain_report;
 mod check;
 mod input;
-mod jo_policy;
-mod laws;
-mod low_run;
-mod spelling;
 mod status;
+#[cfg(test)]
+mod layer_tests;
 #[cfg(test)]
 mod tests;
 mod top;

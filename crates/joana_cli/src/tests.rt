@@ -8,7 +8,7 @@ use std::test::Fail;
 
 // Main with the natives secret()I, get()I, show(I)V and main()V: get, istore_0, secret, istore_1, iload_0, iconst_1, iadd,
 // show, return. The pool ends before byte 127, the code begins at byte 185.
-const MAIN: [u8; 206] = [
+pub const MAIN: [u8; 206] = [
     0xca, 0xfe, 0xba, 0xbe, 0, 0, 0, 0x34, 0, 0x13, 1, 0, 4, b'M', b'a', b'i', b'n', 7, 0, 1, 1, 0,
     16, b'j', b'a', b'v', b'a', b'/', b'l', b'a', b'n', b'g', b'/', b'O', b'b', b'j', b'e', b'c',
     b't', 7, 0, 3, 1, 0, 6, b's', b'e', b'c', b'r', b'e', b't', 1, 0, 3, b'(', b')', b'I', 1, 0, 3,

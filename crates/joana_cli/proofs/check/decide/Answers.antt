@@ -5,9 +5,9 @@ use Rattle.toml.specs.Parse.{parse_document}
 use Rattle.jo_prog.specs.declared.program.Program.{Program}
 use Rattle.jo_prog.specs.declared.labels.Labels.{Labels}
 use Rattle.jo_prog.specs.PlainCode.{IsWellLabelled}
-use Rattle.joana_cli.specs.PolicyFile.{policy_of}
+use Rattle.jo_policy.specs.PolicyFile.{policy_of}
 use Rattle.joana_cli.specs.Decision.{MakesProgram, Decides}
-use Rattle.joana_cli.proofs.Verdicts.{true_not_false}
+use Rattle.low_run.proofs.Verdicts.{true_not_false}
 use Rattle.joana_cli.proofs.Forms.{Labelled, no_program_form, no_policy_form, no_form, few_of_program, short_code, first_form, decided}
 use Rattle.joana_cli.proofs.check.decide.Goals as goal
 

@@ -1,6 +1,6 @@
 use Rattle.std.proofs.Common.{◌≡◌, ◌∙◌, inl, inr, ap, refl, sym, length}
 use Rattle.joana_cli.proofs.Forms.{read_at, lacks_native}
-use Rattle.joana_cli.proofs.Verdicts.{true_not_false}
+use Rattle.low_run.proofs.Verdicts.{true_not_false}
 use Rattle.joana_cli.proofs.check.has_one_code.Goals as goal
 
 pub returns-then-method-eq0 : goal.returns-then-method-eq0

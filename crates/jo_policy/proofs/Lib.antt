@@ -1,0 +1,4 @@
+pub mod PolicyLabels
+pub mod PolicyParts
+pub mod PolicyReads
+pub mod PolicySteps

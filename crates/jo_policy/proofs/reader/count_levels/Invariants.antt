@@ -1,0 +1,7 @@
+use Rattle.std.proofs.Common.{◌≡◌, ◌++◌, ◌-◌}
+use Rattle.jo_prog.specs.Linking.{count_from}
+use Rattle.jo_policy.proofs.reader.count_levels.Given as goal
+
+-- the levels before this one are there
+abbrev pub invariant-loop-level : goal.invariant-loop-level
+invariant-loop-level l = l.levels ++ count_from l.level (l.count - l.level) ≡ count_from 0 l.count

@@ -1,9 +1,0 @@
-use Rattle.std.proofs.Common.{arith}
-use Rattle.std.proofs.lemmas.Grind.{common_steps}
-use Rattle.joana_cli.proofs.PolicySteps.{count_from-step}
-use Rattle.joana_cli.proofs.jo_policy.count_levels.Goals as goal
-
-pub loop-level-preserved : goal.loop-level-preserved
-loop-level-preserved c =
-    let step = count_from-step c.loop-level.level c.args.count c.loop-level-test.true in
-    grind (arith, common_steps)

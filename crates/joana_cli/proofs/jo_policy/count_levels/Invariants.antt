@@ -1,7 +1,0 @@
-use Rattle.std.proofs.Common.{◌≡◌, ◌++◌, ◌-◌}
-use Rattle.jo_prog.specs.Linking.{count_from}
-use Rattle.joana_cli.proofs.jo_policy.count_levels.Given as goal
-
--- the levels before this one are there
-abbrev pub invariant-loop-level : goal.invariant-loop-level
-invariant-loop-level l = l.levels ++ count_from l.level (l.count - l.level) ≡ count_from 0 l.count

@@ -1,7 +1,0 @@
-use Rattle.std.proofs.Common.{◌≡◌, drop}
-use Rattle.joana_cli.specs.PolicyFile.{place_from}
-use Rattle.joana_cli.proofs.jo_policy.place_of.Given as goal
-
--- no name before this one is the text
-abbrev pub invariant-loop-i : goal.invariant-loop-i
-invariant-loop-i l = place_from l.i (drop l.i l.names) l.text ≡ place_from 0 l.names l.text

@@ -1,0 +1,204 @@
+// The layers below the command on the worked class.
+use crate::tests::MAIN;
+use chain_report::nodes::push_node;
+use class_read::read_class;
+use flow_graph::dep_nodes::{NodeName, SiteList};
+use flow_graph::flow::NodeKind;
+use jo_ids::{Id, Memory, MethodId};
+use jo_policy::read_policy;
+use jo_prog::labels::{Label, Labels};
+use jo_prog::linker::link;
+use jo_prog::program::Program;
+use jo_prog::spelling::push_method;
+use std::alloc::Global;
+use std::process::Abort;
+use std::test::Fail;
+
+// Main's methods are secret, get, show and main, in this order.
+fn program(alloc: Global) -> Result<Option<Program>, Memory> {
+    match read_class(alloc, &MAIN)? {
+        Some(class) => Ok(Some(link(alloc, &class)?)),
+        None => Ok(None),
+    }
+}
+
+const LEVELS: &str = "levels = [\"low\", \"high\"]";
+
+const FLOWS: &str = "flows = [[\"low\", \"high\"]]";
+
+const ENTRY: &str = "entry = \"Main.main()V\"";
+
+const SOURCES: &str = "\"Main.secret()I\" = \"high\"\n\"Main.get()I\" = \"low\"";
+
+const SINKS: &str = "\"Main.show(I)V\" = \"low\"";
+
+fn plain(item: &(MethodId, Label)) -> (u32, &'static str, u32) {
+    match item.1 {
+        Label::Source(level) => (item.0.number(), "source", level.number()),
+        Label::Sink(level) => (item.0.number(), "sink", level.number()),
+        Label::Release { from, to: _ } => (item.0.number(), "release", from.number()),
+    }
+}
+
+// The program has four methods, which is few enough.
+fn read(
+    rt: &impl Abort,
+    alloc: Global,
+    text: &[u8],
+    program: &Program,
+) -> Result<Option<Labels>, Memory> {
+    assert_eq!(rt; program.methods.as_slice().len(), 4);
+    read_policy(alloc, text, program)
+}
+
+#[test]
+fn a_small_policy_is_read(rt: HostRuntime) -> Result<(), Fail> {
+    let alloc = rt.alloc();
+    let program = program(alloc)?.ok_or("a class")?;
+    let text = format!(in alloc;
+        "{LEVELS}\n{FLOWS}\n{ENTRY}\n[sources]\n{SOURCES}\n[sinks]\n{SINKS}\n"
+    )?;
+    let labels = read(&rt, alloc, text.as_bytes(), &program)?.ok_or("no policy")?;
+    assert_eq!(rt; labels.levels.as_slice().len(), 2);
+    assert_eq!(rt; labels.flows.as_slice(), [(0u32, 1u32)].as_slice());
+    assert_eq!(rt; labels.observers.as_slice().len(), 2);
+    assert_eq!(rt; labels.entry.number(), 3);
+    let wanted = [(0u32, "source", 1u32), (1, "source", 0), (2, "sink", 0)];
+    assert_eq!(rt; labels.labelled.as_slice().len(), wanted.len());
+    for (item, wanted) in labels.labelled.as_slice().iter().zip(wanted.iter()) {
+        let (number, word, level) = plain(item);
+        assert_eq!(rt; number, wanted.0);
+        assert_eq!(rt; word, wanted.1);
+        assert_eq!(rt; level, wanted.2);
+    }
+    Ok(())
+}
+
+#[test]
+fn a_policy_with_a_fault_is_none(rt: HostRuntime) -> Result<(), Fail> {
+    let alloc = rt.alloc();
+    let program = program(alloc)?.ok_or("a class")?;
+    for (fault, levels, flows, entry, sources, sinks) in [
+        (
+            "three levels",
+            "levels = [\"low\", \"high\", \"mid\"]",
+            FLOWS,
+            ENTRY,
+            SOURCES,
+            SINKS,
+        ),
+        (
+            "two flows",
+            LEVELS,
+            "flows = [[\"low\", \"high\"], [\"high\", \"low\"]]",
+            ENTRY,
+            SOURCES,
+            SINKS,
+        ),
+        (
+            "an unknown key",
+            LEVELS,
+            "flows = []\nreleases = []",
+            ENTRY,
+            SOURCES,
+            SINKS,
+        ),
+        ("no levels", "levels = []", "flows = []", ENTRY, "", ""),
+        (
+            "a level twice",
+            "levels = [\"low\", \"low\"]",
+            "flows = []",
+            ENTRY,
+            "\"Main.secret()I\" = \"low\"\n\"Main.get()I\" = \"low\"",
+            SINKS,
+        ),
+        (
+            "an unknown level",
+            LEVELS,
+            FLOWS,
+            ENTRY,
+            "\"Main.secret()I\" = \"top\"\n\"Main.get()I\" = \"low\"",
+            SINKS,
+        ),
+        (
+            "a missing method",
+            LEVELS,
+            FLOWS,
+            ENTRY,
+            SOURCES,
+            "\"Main.show(I)V\" = \"low\"\n\"Main.none(I)V\" = \"low\"",
+        ),
+        (
+            "a method in both tables",
+            LEVELS,
+            FLOWS,
+            ENTRY,
+            SOURCES,
+            "\"Main.show(I)V\" = \"low\"\n\"Main.get()I\" = \"low\"",
+        ),
+        (
+            "a sink with a result",
+            LEVELS,
+            FLOWS,
+            ENTRY,
+            "\"Main.secret()I\" = \"high\"",
+            "\"Main.show(I)V\" = \"low\"\n\"Main.get()I\" = \"low\"",
+        ),
+        ("an unlabelled native", LEVELS, FLOWS, ENTRY, SOURCES, ""),
+        (
+            "an entry that is native",
+            LEVELS,
+            FLOWS,
+            "entry = \"Main.get()I\"",
+            SOURCES,
+            SINKS,
+        ),
+        ("no TOML", "levels = [", FLOWS, ENTRY, SOURCES, SINKS),
+    ] {
+        let text = format!(in alloc;
+            "{levels}\n{flows}\n{entry}\n[sources]\n{sources}\n[sinks]\n{sinks}\n"
+        )?;
+        assert!(rt;
+            read(&rt, alloc, text.as_bytes(), &program)?.is_none(),
+            "{fault}"
+        );
+    }
+    assert!(rt;
+        read(&rt, alloc, b"levels = [\"\xff\"]".as_slice(), &program)?.is_none(),
+        "no UTF-8"
+    );
+    Ok(())
+}
+
+#[test]
+fn methods_and_nodes_are_spelled(rt: HostRuntime) -> Result<(), Fail> {
+    let alloc = rt.alloc();
+    let program = program(alloc)?.ok_or("a class")?;
+    for (number, wanted) in [(2, "Main.show(I)V"), (3, "Main.main()V"), (9, "")] {
+        let mut text = Vec::new(alloc);
+        push_method(&mut text, &program, Id::of(number))?;
+        assert_eq!(rt; text.as_slice(), wanted.as_bytes(), "method {number}");
+    }
+    for (kind, wanted) in [
+        (NodeKind::Entry, "Main.main()V [] entry"),
+        (NodeKind::Exit, "Main.main()V [] "),
+        (NodeKind::RetVal(30), "Main.main()V [] retval 30"),
+        (NodeKind::Arg(7, 0), "Main.main()V [] arg 7 0"),
+        (NodeKind::Thrown, "Main.main()V [] thrown"),
+    ] {
+        let name = NodeName {
+            method: Id::of(3),
+            sites: SiteList {
+                len: 0,
+                first: Id::of(0),
+                second: Id::of(0),
+            },
+            kind,
+            resolved: None,
+        };
+        let mut text = Vec::new(alloc);
+        push_node(alloc, &mut text, &program, &name)?;
+        assert_eq!(rt; text.as_slice(), wanted.as_bytes());
+    }
+    Ok(())
+}

@@ -1,0 +1,9 @@
+pub mod Agreement
+pub mod AlikeRuns
+pub mod AlikeValues
+pub mod CleanRuns
+pub mod LeakRuns
+pub mod NeverStuck
+pub mod Relevance
+pub mod Sides
+pub mod Verdicts

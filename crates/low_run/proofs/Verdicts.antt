@@ -1,0 +1,245 @@
+-- From walks of a graph between the two sides of an observer to illegal chains, and back.
+use Rattle.std.proofs.Common.{◌≡◌, ◌⊎◌, inl, inr, ℕ, zero, suc, ◌+◌, ◌<◌, Bool, true, false, ◌&&◌, ◌==◌, List, [], ◌∷◌, length, Option, Some, None, Contains, option_map, option_and_then, slice_get, refl, sym, ap, subst, ◌∙◌, arith}
+use Rattle.std.proofs.lemmas.Option.{same_Some, slice_get_within}
+use Rattle.std.proofs.lemmas.Bool.Decides.{nat_tests}
+use Rattle.jo_prog.specs.declared.labels.Label.{Label}
+use Rattle.jo_prog.specs.declared.labels.Labels.{Labels}
+use Rattle.jo_prog.specs.declared.program.Program.{Program}
+use Rattle.jo_prog.specs.Labels.{label_of, reaches, misses, shown_at, brings, lets_out}
+use Rattle.jo_prog.specs.Program.{callee_at, operation_at}
+use Rattle.flow_graph.specs.declared.flow.NodeKind.{NodeKind}
+use Rattle.flow_graph.specs.declared.flow.NodeKind.TheVariants.{Entry, Exit, Instr, Call, RetVal, RetKind, Throw, Catch, Poll, XPoll, Arg, Param, Kind, Value, Thrown}
+use Rattle.flow_graph.specs.declared.dep_nodes.EdgeKind.{EdgeKind}
+use Rattle.flow_graph.specs.declared.dep_nodes.Edge.{Edge}
+use Rattle.flow_graph.specs.declared.dep_nodes.NodeName.{NodeName}
+use Rattle.flow_graph.specs.declared.dep_nodes.Graph.{Graph}
+use Rattle.flow_graph.specs.declared.dep_nodes.Chain.{Chain}
+use Rattle.jo_prog.specs.declared.operations.Operation.{Operation}
+use Rattle.jo_prog.specs.declared.operations.Operation.TheVariants.{Constant, Load, Store, Add, Subtract, InvokeStatic, Return, Other}
+use Rattle.flow_graph.specs.Flow.{IsFlowNode, ArgumentPlace, FlowEdge, begins, skips, falls, leaves, calls, arrives, Path, stays, steps, node_at, node_of}
+use Rattle.flow_graph.specs.Graph.{Instance, Node, node, IsNode, of_flow, of_argument, of_kind, of_thrown, IsReached, label_at}
+use Rattle.flow_graph.specs.Chains.{Link, end_of}
+use Rattle.flow_graph.specs.GraphData.{graph_node, node_named, sites_of, resolved_of, edge, links_of, walk_end, IsWalk, WalksTo, IsDependenceGraph}
+use Rattle.flow_graph.specs.Slices.{HasEdgesInside}
+use Rattle.flow_graph.proofs.ChainWalks.{walk_is_valid, walk_ends, chain_is_walk}
+use Rattle.low_run.specs.Verdict.{IsHidden, result, IsObserved, call, let_out, IllegalChain, Clean}
+use Rattle.low_run.specs.Sides.{label_resolved, is_kind_on, is_on, hidden_nodes, observed_nodes, IsForbiddenWalk}
+use Rattle.low_run.specs.declared.refusals.Side.TheVariants.{Hidden, Observed}
+use Rattle.low_run.proofs.Sides.{Passes, passes_at, number_in}
+
+-- ---- nodes of a graph
+
+-- the name of a node of the graph
+pub named : (graph : Graph) (n : ℕ) (x : Node) → graph_node graph n ≡ Some x → (name : NodeName) × (slice_get graph.nodes n ≡ Some name) × (node_named name ≡ x)
+named graph n x at = named_by (slice_get graph.nodes n) refl at
+  where
+    named_by : (o : Option NodeName) → slice_get graph.nodes n ≡ o → option_map node_named o ≡ Some x → (name : NodeName) × (slice_get graph.nodes n ≡ Some name) × (node_named name ≡ x)
+    named_by None e h = absurd (cc)
+    named_by (Some name) e h = (name, e, same_Some _ _ h)
+
+pub edges_inside : (program : Program) (labels : Labels) (graph : Graph) → IsDependenceGraph program labels graph → HasEdgesInside graph
+edges_inside program labels graph whole e inside =
+    let found = whole.only_edges e.from e.to e.kind inside in
+    let from = named graph e.from found.0 found.2 in
+    let to = named graph e.to found.1 found.3 in
+    (slice_get_within graph.nodes e.from from.0 from.1, slice_get_within graph.nodes e.to to.0 to.1)
+
+-- ---- kinds
+
+pub true_not_false : true ≡ false → ⊥
+true_not_false h = let P : Bool → Type 0 = λ b. elim b [ true ↦ Unit {0} | false ↦ ⊥ ] in subst P h tt
+
+hidden_kind : (labels : Labels) (observer : ℕ) (label : Option Label) (kind : NodeKind) → is_kind_on Hidden labels observer label kind ≡ true
+    → (pc : ℕ) × (kind ≡ RetVal pc) × (misses labels observer (brings label) ≡ true)
+hidden_kind labels observer label (RetVal pc) h = (pc, refl, h)
+hidden_kind labels observer label _ h = absurd (cc)
+
+-- a number above 0 is no 0
+eqb-suc-zero : (i : ℕ) → (suc i == 0) ≡ false
+eqb-suc-zero i = grind (arith, nat_tests)
+
+first_so_not : (a b : Bool) → a ≡ false → (a && b) ≡ true → ⊥
+first_so_not false b e h = true_not_false (sym h)
+first_so_not true b e h = true_not_false e
+
+observed_argument : (labels : Labels) (observer : ℕ) (label : Option Label) (pc i : ℕ) → is_kind_on Observed labels observer label (Arg pc i) ≡ true
+    → (i ≡ 0) × (reaches labels observer (lets_out label) ≡ true)
+observed_argument labels observer label pc zero h = (refl, h)
+observed_argument labels observer label pc (suc i) h = absurd (first_so_not (suc i == 0) (reaches labels observer (lets_out label)) (eqb-suc-zero i) h)
+
+observed_kind : (labels : Labels) (observer : ℕ) (label : Option Label) (kind : NodeKind) → is_kind_on Observed labels observer label kind ≡ true
+    → ((pc : ℕ) × (kind ≡ Call pc) × (reaches labels observer (shown_at label) ≡ true)) ⊎ ((pc : ℕ) × (kind ≡ Arg pc 0) × (reaches labels observer (lets_out label) ≡ true))
+observed_kind labels observer label (Call pc) h = inl (pc, refl, h)
+observed_kind labels observer label (Arg pc i) h =
+    let a = observed_argument labels observer label pc i h in
+    inr (pc, ap (Arg pc) a.0, a.1)
+observed_kind labels observer label _ h = absurd (cc)
+
+-- ---- the label of a node
+
+-- a name with another kind
+abbrev with_kind : NodeName → NodeKind → NodeName
+with_kind name kind = record { method = name.method; sites = name.sites; kind = kind; resolved = name.resolved }
+
+label_is : (program : Program) (labels : Labels) (m pc : ℕ) → option_and_then (label_of labels) (callee_at program m pc) ≡ label_at program labels m pc
+label_is program labels m pc = label_by (callee_at program m pc) refl
+  where
+    label_by : (o : Option ℕ) → callee_at program m pc ≡ o → option_and_then (label_of labels) (callee_at program m pc) ≡ label_at program labels m pc
+    label_by None e = rw e refl
+    label_by (Some callee) e = rw e refl
+
+-- the label that a node's name leads to is that of the call at its pc
+named_label : (program : Program) (labels : Labels) (name : NodeName) (kind : NodeKind) (pc : ℕ) → name.resolved ≡ resolved_of program name → name.kind ≡ kind
+    → resolved_of program (with_kind name kind) ≡ callee_at program name.method pc → label_resolved labels name.resolved ≡ label_at program labels name.method pc
+named_label program labels name kind pc r e h =
+    let Resolved : NodeKind → Type 0 = λ k. name.resolved ≡ resolved_of program (with_kind name k) in
+    let callee : name.resolved ≡ callee_at program name.method pc = subst Resolved e r ∙ h in
+    ap (option_and_then (label_of labels)) callee ∙ label_is program labels name.method pc
+
+-- ---- nodes of the dependence graph
+
+-- no thread stands at an argument
+no_argument_of : (p : ℕ) (o : Option (Operation × ℕ)) (pc k : ℕ) → node_of p o ≡ Arg pc k → ⊥
+no_argument_of p None pc k e = absurd (cc)
+no_argument_of p (Some (Constant z, next)) pc k e = absurd (cc)
+no_argument_of p (Some (Load l, next)) pc k e = absurd (cc)
+no_argument_of p (Some (Store l, next)) pc k e = absurd (cc)
+no_argument_of p (Some (Add, next)) pc k e = absurd (cc)
+no_argument_of p (Some (Subtract, next)) pc k e = absurd (cc)
+no_argument_of p (Some (InvokeStatic i, next)) pc k e = absurd (cc)
+no_argument_of p (Some (Return, next)) pc k e = absurd (cc)
+no_argument_of p (Some (Other, next)) pc k e = absurd (cc)
+
+no_argument_at : (program : Program) (m p pc k : ℕ) → node_at program m p ≡ Arg pc k → ⊥
+no_argument_at program m p pc k e = no_argument_of p (operation_at program m p) pc k e
+
+-- no flow edge leads to an argument
+no_edge : (program : Program) (m : ℕ) (a b : NodeKind) (pc k : ℕ) → FlowEdge program m a b → b ≡ Arg pc k → ⊥
+no_edge program m a b pc k (begins n at) e = no_argument_at program m 0 pc k (at ∙ e)
+no_edge program m a b pc k skips e = absurd (cc)
+no_edge program m a b pc k (falls p q o n found through at) e = no_argument_at program m q pc k (at ∙ e)
+no_edge program m a b pc k (leaves p q found) e = absurd (cc)
+no_edge program m a b pc k (calls p q i found native) e = absurd (cc)
+no_edge program m a b pc k (arrives p q i n found native at) e = no_argument_at program m q pc k (at ∙ e)
+
+no_path : (program : Program) (m : ℕ) (a b : NodeKind) (pc k : ℕ) → Path program m a b → b ≡ Arg pc k → (a ≡ Arg pc k → ⊥) → ⊥
+no_path program m a b pc k (stays n) e free = free e
+no_path program m a c pc k (steps x y z first path) e free = no_path program m y z pc k path e (no_edge program m x y pc k first)
+
+no_argument : (program : Program) (m : ℕ) (n : NodeKind) (pc k : ℕ) → IsFlowNode program m n → n ≡ Arg pc k → ⊥
+no_argument program m n pc k flow e = no_path program m Entry n pc k flow e (λ h. absurd (cc))
+
+result_node : (program : Program) (labels : Labels) (x : Node) (pc : ℕ) → IsNode program labels x → x.kind ≡ RetVal pc → IsReached labels x.inst × IsFlowNode program x.inst.method (RetVal pc)
+result_node program labels x pc (of_flow i n reached flow) e = (reached, subst (IsFlowNode program i.method) e flow)
+result_node program labels x pc (of_argument i p a v reached flow place) e = absurd (cc)
+result_node program labels x pc (of_kind i reached) e = absurd (cc)
+result_node program labels x pc (of_thrown i reached) e = absurd (cc)
+
+call_node : (program : Program) (labels : Labels) (x : Node) (pc : ℕ) → IsNode program labels x → x.kind ≡ Call pc → IsReached labels x.inst × IsFlowNode program x.inst.method (Call pc)
+call_node program labels x pc (of_flow i n reached flow) e = (reached, subst (IsFlowNode program i.method) e flow)
+call_node program labels x pc (of_argument i p a v reached flow place) e = absurd (cc)
+call_node program labels x pc (of_kind i reached) e = absurd (cc)
+call_node program labels x pc (of_thrown i reached) e = absurd (cc)
+
+argument_node : (program : Program) (labels : Labels) (x : Node) (pc k : ℕ) → IsNode program labels x → x.kind ≡ Arg pc k → IsReached labels x.inst × IsFlowNode program x.inst.method (Call pc)
+argument_node program labels x pc k (of_flow i n reached flow) e = absurd (no_argument program i.method n pc k flow e)
+argument_node program labels x pc k (of_argument i p a v reached flow place) e = (reached, subst (λ q. IsFlowNode program i.method (Call q)) (let same : p ≡ pc = cc in same) flow)
+argument_node program labels x pc k (of_kind i reached) e = absurd (cc)
+argument_node program labels x pc k (of_thrown i reached) e = absurd (cc)
+
+-- ---- walks are illegal chains
+
+module _ (program : Program) (labels : Labels) (graph : Graph) (whole : IsDependenceGraph program labels graph) (observer : ℕ) where
+  -- the node of a name, with its kind known
+  node_as : (n : ℕ) (name : NodeName) (kind : NodeKind) → slice_get graph.nodes n ≡ Some name → name.kind ≡ kind → IsNode program labels (node_named name)
+  node_as n name kind at e = whole.only_nodes n (node_named name) (ap (option_map node_named) at)
+
+  hidden_at : (n : ℕ) (name : NodeName) → slice_get graph.nodes n ≡ Some name → is_on Hidden labels observer name ≡ true → IsHidden program labels observer (node_named name)
+  hidden_at n name at on =
+      let k = hidden_kind labels observer (label_resolved labels name.resolved) name.kind on in
+      let r = result_node program labels (node_named name) k.0 (node_as n name (RetVal k.0) at k.1) k.1 in
+      let label = named_label program labels name (RetVal k.0) k.0 (whole.resolved n name at) k.1 refl in
+      let i : Instance = (node_named name).inst in
+      let Is : NodeKind → Type 0 = λ kind. IsHidden program labels observer (node i kind) in
+      subst Is (sym k.1) (result i k.0 r.0 r.1 (ap (λ l. misses labels observer (brings l)) (sym label) ∙ k.2))
+
+  observed_at : (n : ℕ) (name : NodeName) → slice_get graph.nodes n ≡ Some name → is_on Observed labels observer name ≡ true → IsObserved program labels observer (node_named name)
+  observed_at n name at on =
+      let i : Instance = (node_named name).inst in
+      let Is : NodeKind → Type 0 = λ kind. IsObserved program labels observer (node i kind) in
+      elim (observed_kind labels observer (label_resolved labels name.resolved) name.kind on) [
+        | inl k ↦
+            (let r = call_node program labels (node_named name) k.0 (node_as n name (Call k.0) at k.1) k.1 in
+            let label = named_label program labels name (Call k.0) k.0 (whole.resolved n name at) k.1 refl in
+            subst Is (sym k.1) (call i k.0 r.0 r.1 (ap (λ l. reaches labels observer (shown_at l)) (sym label) ∙ k.2)))
+        | inr k ↦
+            (let r = argument_node program labels (node_named name) k.0 0 (node_as n name (Arg k.0 0) at k.1) k.1 in
+            let label = named_label program labels name (Arg k.0 0) k.0 (whole.resolved n name at) k.1 refl in
+            subst Is (sym k.1) (let_out i k.0 r.0 r.1 (ap (λ l. reaches labels observer (lets_out l)) (sym label) ∙ k.2)))
+      ]
+
+  -- a walk from what is hidden to what is observed is an illegal chain
+  pub forbidden_is_illegal : (chain : Chain) → IsForbiddenWalk labels graph observer chain
+      → (from : Node) × (graph_node graph chain.start ≡ Some from) × IllegalChain program labels observer from (links_of graph chain.steps)
+  forbidden_is_illegal chain f =
+      let s = passes_at (is_on Hidden labels observer) 0 graph.nodes chain.start f.start in
+      let place : s.place ≡ chain.start = omega (arith, s.number) in
+      let found : slice_get graph.nodes chain.start ≡ Some s.name = subst (λ n. slice_get graph.nodes n ≡ Some s.name) place s.found in
+      let from = node_named s.name in
+      let at : graph_node graph chain.start ≡ Some from = ap (option_map node_named) found in
+      let e = passes_at (is_on Observed labels observer) 0 graph.nodes (walk_end chain.start chain.steps) f.finish in
+      let end_place : e.place ≡ walk_end chain.start chain.steps = omega (arith, e.number) in
+      let end_found : slice_get graph.nodes (walk_end chain.start chain.steps) ≡ Some e.name = subst (λ n. slice_get graph.nodes n ≡ Some e.name) end_place e.found in
+      let ends = walk_ends program labels graph whole chain.start from chain.steps at f.walk in
+      let last : node_named e.name ≡ end_of from (links_of graph chain.steps) = same_Some _ _ (sym (ap (option_map node_named) end_found) ∙ ends) in (
+        from,
+        at,
+        record {
+          start = hidden_at chain.start s.name found s.passes;
+          chain = walk_is_valid program labels graph whole chain.start from chain.steps at f.walk;
+          finish = subst (IsObserved program labels observer) last (observed_at (walk_end chain.start chain.steps) e.name end_found e.passes);
+        },
+      )
+
+  -- ---- illegal chains are walks
+
+  -- the name of a node with its label
+  resolved_label : (n : ℕ) (name : NodeName) (i : Instance) (kind : NodeKind) (pc : ℕ) → slice_get graph.nodes n ≡ Some name → node_named name ≡ node i kind
+      → resolved_of program (with_kind name kind) ≡ callee_at program name.method pc → label_resolved labels name.resolved ≡ label_at program labels i.method pc
+  resolved_label n name i kind pc at e h =
+      named_label program labels name kind pc (whole.resolved n name at) (ap (λ (x : Node). x.kind) e) h ∙ ap (λ m. label_at program labels m pc) (ap (λ (x : Node). x.inst.method) e)
+
+  hidden_number : (x : Node) → IsHidden program labels observer x → (n : ℕ) → graph_node graph n ≡ Some x → Contains (hidden_nodes labels observer graph) n
+  hidden_number x (result i pc reached flow miss) n at =
+      let name = named graph n (node i (RetVal pc)) at in
+      let label = resolved_label n name.0 i (RetVal pc) pc name.1 name.2 refl in
+      let kind : name.0.kind ≡ RetVal pc = ap (λ (y : Node). y.kind) name.2 in
+      let on : is_on Hidden labels observer name.0 ≡ true =
+      ap (λ k. is_kind_on Hidden labels observer (label_resolved labels name.0.resolved) k) kind ∙ (ap (λ l. misses labels observer (brings l)) label ∙ miss) in
+      number_in (is_on Hidden labels observer) graph.nodes n name.0 name.1 on
+
+  observed_number : (x : Node) → IsObserved program labels observer x → (n : ℕ) → graph_node graph n ≡ Some x → Contains (observed_nodes labels observer graph) n
+  observed_number x (call i pc reached flow reach) n at =
+      let name = named graph n (node i (Call pc)) at in
+      let label = resolved_label n name.0 i (Call pc) pc name.1 name.2 refl in
+      let kind : name.0.kind ≡ Call pc = ap (λ (y : Node). y.kind) name.2 in
+      let on : is_on Observed labels observer name.0 ≡ true =
+      ap (λ k. is_kind_on Observed labels observer (label_resolved labels name.0.resolved) k) kind ∙ (ap (λ l. reaches labels observer (shown_at l)) label ∙ reach) in
+      number_in (is_on Observed labels observer) graph.nodes n name.0 name.1 on
+  observed_number x (let_out i pc reached flow reach) n at =
+      let name = named graph n (node i (Arg pc 0)) at in
+      let label = resolved_label n name.0 i (Arg pc 0) pc name.1 name.2 refl in
+      let kind : name.0.kind ≡ Arg pc 0 = ap (λ (y : Node). y.kind) name.2 in
+      let on : is_on Observed labels observer name.0 ≡ true =
+      ap (λ k. is_kind_on Observed labels observer (label_resolved labels name.0.resolved) k) kind ∙ (ap (λ l. reaches labels observer (lets_out l)) label ∙ reach) in
+      number_in (is_on Observed labels observer) graph.nodes n name.0 name.1 on
+
+  hidden_node : (x : Node) → IsHidden program labels observer x → IsNode program labels x
+  hidden_node x (result i pc reached flow miss) = of_flow i (RetVal pc) reached flow
+
+  -- where no walk leads from what is hidden to what is observed, the observer is clean
+  pub no_walk_is_clean : ((from : ℕ) → Contains (hidden_nodes labels observer graph) from → WalksTo graph (observed_nodes labels observer graph) from → ⊥) → Clean program labels observer
+  no_walk_is_clean none from links illegal =
+      let n = whole.each_node from (hidden_node from illegal.start) in
+      let walk = chain_is_walk program labels graph whole [] n.0 from links n.1 illegal.chain in
+      none n.0 (hidden_number from illegal.start n.0 n.1) (walk.0, walk.1, observed_number (end_of from links) illegal.finish (walk_end n.0 walk.0) walk.2)

@@ -1,0 +1,5 @@
+pub mod Verdict
+pub mod Security
+pub mod Sides
+pub mod Leak
+pub mod RunStates

@@ -1,0 +1,46 @@
+-- Which nodes of a graph an observer may not depend on, and which it may see, by the label of the method that a node's
+-- instruction names.
+use Rattle.std.specs.Prelude.{◌≡◌, ℕ, zero, suc, ◌+◌, Bool, true, false, ◌==◌, ◌&&◌, if◌then◌else◌, List, [], ◌∷◌, Option, Some, None, option_and_then, Contains}
+use Rattle.jo_prog.specs.declared.labels.Label.{Label}
+use Rattle.jo_prog.specs.declared.labels.Labels.{Labels}
+use Rattle.jo_prog.specs.Labels.{label_of, reaches, misses, shown_at, brings, lets_out}
+use Rattle.flow_graph.specs.declared.flow.NodeKind.{NodeKind}
+use Rattle.flow_graph.specs.declared.flow.NodeKind.TheVariants.{Entry, Exit, Instr, Call, RetVal, RetKind, Throw, Catch, Poll, XPoll, Arg, Param, Kind, Value, Thrown}
+use Rattle.flow_graph.specs.declared.dep_nodes.NodeName.{NodeName}
+use Rattle.flow_graph.specs.declared.dep_nodes.Chain.{Chain}
+use Rattle.flow_graph.specs.declared.dep_nodes.Graph.{Graph}
+use Rattle.flow_graph.specs.GraphData.{IsWalk, walk_end}
+use Rattle.low_run.specs.declared.refusals.Side.{Side}
+use Rattle.low_run.specs.declared.refusals.Side.TheVariants.{Hidden, Observed}
+
+abbrev pub label_resolved : Labels → Option ℕ → Option Label
+label_resolved labels resolved = option_and_then (label_of labels) resolved
+
+-- a node of this kind, whose call names a method with this label, is on the side
+abbrev pub is_kind_on : Side → Labels → ℕ → Option Label → NodeKind → Bool
+is_kind_on Hidden labels observer label (RetVal pc) = misses labels observer (brings label)
+is_kind_on Hidden labels observer label _ = false
+is_kind_on Observed labels observer label (Call pc) = reaches labels observer (shown_at label)
+is_kind_on Observed labels observer label (Arg pc i) = (i == 0) && reaches labels observer (lets_out label)
+is_kind_on Observed labels observer label _ = false
+
+abbrev pub is_on : Side → Labels → ℕ → NodeName → Bool
+is_on side labels observer name = is_kind_on side labels observer (label_resolved labels name.resolved) name.kind
+
+-- the numbers of the nodes that pass a test, where the nodes have numbers from a first one on
+abbrev pub places_from : (NodeName → Bool) → ℕ → List NodeName → List ℕ
+places_from test first [] = []
+places_from test first (name ∷ names) = if test name then first ∷ places_from test (suc first) names else places_from test (suc first) names
+
+-- what the observer may not depend on, and what it may see
+abbrev pub hidden_nodes : Labels → ℕ → Graph → List ℕ
+hidden_nodes labels observer graph = places_from (is_on Hidden labels observer) 0 graph.nodes
+
+abbrev pub observed_nodes : Labels → ℕ → Graph → List ℕ
+observed_nodes labels observer graph = places_from (is_on Observed labels observer) 0 graph.nodes
+
+-- a walk of the graph from the one to the other
+pub record IsForbiddenWalk (labels : Labels) (graph : Graph) (observer : ℕ) (chain : Chain) : Type 0 where
+  pub start : Contains (hidden_nodes labels observer graph) chain.start
+  pub walk : IsWalk graph chain.start chain.steps
+  pub finish : Contains (observed_nodes labels observer graph) (walk_end chain.start chain.steps)

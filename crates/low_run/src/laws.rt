@@ -1,0 +1,44 @@
+//! Laws of the definitions. Each function is empty: what it ensures is the law.
+ghost use Rattle.std.specs.Prelude.{◌≢◌, ◌⊎◌, ℕ, ℤ, Bool, true, false, List, ◌∷◌, ◌++◌, Contains, IsSome};
+ghost use Rattle.jo_prog.specs.Machine.{State, step};
+ghost use Rattle.jo_prog.specs.PlainCode.{IsPlainProgram};
+ghost use Rattle.jo_prog.specs.Runs.{enabled};
+ghost use Rattle.jo_prog.specs.Worked.{worked_labels};
+ghost use Rattle.jo_prog.specs.declared.labels.Labels.{Labels};
+ghost use Rattle.jo_prog.specs.declared.program.Program.{Program};
+ghost use Rattle.jo_prog.specs.declared.runs.Event.{Event};
+ghost use Rattle.jo_prog.specs.declared.runs.Event.TheVariants.{Out};
+ghost use Rattle.jo_prog.specs.declared.runs.SourceInput.{SourceInput};
+ghost use Rattle.low_run.specs.Leak.{leaking_program};
+ghost use Rattle.low_run.specs.Verdict.{CleanForAll};
+ghost use Rattle.low_run.specs.RunStates.{IsState};
+ghost use Rattle.low_run.specs.Security.{Agree, Secure};
+
+/// A plain program without an illegal chain for any of its observers is secure.
+pub fn clean_is_secure()
+    ensures { (program : Program) (labels : Labels) → IsPlainProgram program labels → CleanForAll program labels → Secure program labels }
+{}
+
+/// Security is no empty word: the worked program that shows its secret isn't secure.
+pub fn worked_leak()
+    ensures { Secure leaking_program worked_labels → ⊥ }
+{}
+
+/// Agreement: a run that hasn't ended agrees with each that goes on from it; of two ended runs neither shows more; and where
+/// they first differ it isn't at a sink. It is symmetric, and decidable.
+pub fn agreement()
+    ensures prefix { (labels : Labels) (observer : ℕ) (xs ys : List Event) (ended : Bool) → Agree labels observer xs false (xs ++ ys) ended }
+    ensures longer { (labels : Labels) (observer : ℕ) (xs ys : List Event) (y : Event) → Agree labels observer xs true (xs ++ y ∷ ys) true → ⊥ }
+    ensures out { (labels : Labels) (observer : ℕ) (xs ys zs : List Event) (sink : ℕ) (value : ℤ) (other : Event) (ended other_ended : Bool)
+        → Out sink value ≢ other → Agree labels observer (xs ++ Out sink value ∷ ys) ended (xs ++ other ∷ zs) other_ended → ⊥ }
+    ensures symmetric { (labels : Labels) (observer : ℕ) (xs ys : List Event) (ended other_ended : Bool)
+        → Agree labels observer xs ended ys other_ended → Agree labels observer ys other_ended xs ended }
+    ensures decidable { (labels : Labels) (observer : ℕ) (xs ys : List Event) (ended other_ended : Bool)
+        → Agree labels observer xs ended ys other_ended ⊎ (Agree labels observer xs ended ys other_ended → ⊥) }
+{}
+
+/// Typed plain code never gets stuck: in each state of a run, each thread that may step has a step.
+pub fn never_stuck()
+    ensures { (program : Program) (labels : Labels) (inputs : List SourceInput) (s : State) (t : ℕ)
+        → IsPlainProgram program labels → IsState program labels inputs s → Contains (enabled s) t → IsSome (step program labels inputs s t) }
+{}
