@@ -1,0 +1,6 @@
+pub mod Items
+pub mod Pool
+pub mod Code
+pub mod ClassOrder
+pub mod ClassGrammar
+pub mod Outcomes

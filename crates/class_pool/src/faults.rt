@@ -1,0 +1,76 @@
+//! What is at fault in a class file.
+use std::alloc::AllocError;
+
+/// What the profile cuts.
+#[derive(Clone, Copy)]
+pub enum Cut {
+    /// An opcode that the profile leaves out, or what this opcode asks for.
+    Opcode(u8),
+    /// An `ldc` of the loadable constant with this pool index.
+    Constant(u16),
+    /// A type `long`, `float` or `double` in a descriptor.
+    WideType,
+    /// A method that is synchronized.
+    Synchronized,
+}
+
+/// The kind of a fault.
+#[derive(Clone, Copy)]
+pub enum ClassCode {
+    /// An item's bytes aren't all there.
+    Truncated,
+    Magic,
+    Version,
+    /// A pool entry of an unknown kind.
+    PoolTag,
+    /// A pool index that is none, or names an entry of the wrong kind.
+    PoolIndex,
+    /// Text that isn't modified UTF-8.
+    BadText,
+    /// A name or descriptor outside its grammar.
+    BadDescriptor,
+    /// A length, a count, a place in code or an instruction that can't be.
+    CodeBounds,
+    BadOpcode,
+    /// Bytes follow the class.
+    Trailing,
+    Unsupported(Cut),
+    Memory,
+}
+
+/// The first fault of a class file in the order of reading, and the place of the item at fault: the offset of its first
+/// byte, or the file's length for an item whose bytes aren't all there. With `Memory` the place is 0 and says nothing.
+#[derive(Clone, Copy)]
+pub struct ClassFault {
+    pub code: ClassCode,
+    pub place: u32,
+}
+
+/// Why a reader stopped.
+#[derive(Clone, Copy)]
+pub enum Stop {
+    Fault(ClassFault),
+    Memory,
+}
+
+impl From<AllocError> for Stop {
+    ghost use Rattle.std.specs.Prelude.{◌≡◌};
+    ghost use Rattle.class_pool.specs.declared.faults.Stop.TheVariants.{Memory};
+
+    ghost from_gives = { λ _ e. e ≡ Memory };
+
+    fn from(_e: AllocError) -> Stop {
+        Stop::Memory
+    }
+}
+
+impl<T: Drop> From<(T, AllocError)> for Stop {
+    ghost use Rattle.std.specs.Prelude.{◌≡◌};
+    ghost use Rattle.class_pool.specs.declared.faults.Stop.TheVariants.{Memory};
+
+    ghost from_gives = { λ _ e. e ≡ Memory };
+
+    fn from(_e: (T, AllocError)) -> Stop {
+        Stop::Memory
+    }
+}

@@ -1,0 +1,15 @@
+//! The parts of a class file, the grammar that relates them to bytes, and its constant pool read and written (JVM
+//! Specification SE 8, 4.1 to 4.7).
+#![tactic(auto)]
+
+mod classes;
+mod entries;
+mod faults;
+pub mod items;
+mod reader;
+mod references;
+
+pub use classes::{ClassFile, CodeInfo, FieldInfo, MemberKind, MethodInfo, RowInfo};
+pub use entries::{Pool, PoolEntry, class_name_at, desc_at, entry_at, utf8_at};
+pub use faults::{ClassCode, ClassFault, Cut, Stop};
+pub use reader::read_pool_from;
