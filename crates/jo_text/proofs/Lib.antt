@@ -1,1 +1,4 @@
 pub mod NameSteps
+pub mod DescriptorNames
+pub mod DescriptorFields
+pub mod DescriptorMethods
