@@ -1,1 +1,3 @@
 pub mod NameSteps
+pub mod TextScan
+pub mod Mutf8Leads
