@@ -2,3 +2,5 @@ pub mod NameSteps
 pub mod DescriptorNames
 pub mod DescriptorFields
 pub mod DescriptorMethods
+pub mod TextScan
+pub mod Mutf8Leads
