@@ -1,1 +1,3 @@
 pub mod EncodedSwitch
+pub mod Numbers
+pub mod SpelledIsDecoded

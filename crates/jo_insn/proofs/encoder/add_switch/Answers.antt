@@ -1,4 +1,4 @@
-use Rattle.std.proofs.Common.{◌≡◌, ◌++◌, List, ℕ, ◌*◌, ◌%◌, length, OnOk, arith, subst}
+use Rattle.std.proofs.Common.{◌≡◌, List, ℕ, ◌*◌, ◌%◌, length, arith}
 use Rattle.std.proofs.lemmas.List.{length-take, length-drop, length-set}
 use Rattle.jo_insn.proofs.EncodedSwitch.{head_of_switch}
 use Rattle.jo_insn.proofs.encoder.add_switch.Goals as goal
