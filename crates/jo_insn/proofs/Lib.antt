@@ -1,3 +1,4 @@
 pub mod EncodedSwitch
 pub mod Numbers
 pub mod SpelledIsDecoded
+pub mod SpelledFromDecoded

@@ -94,7 +94,7 @@ offsets_are_read pc other low high table rest fits_other fits_low fits_high orde
       le-ltb (length (table ++ rest)) (4 * offsets_between low high) (omega arith),
     ) refl
 
-keys_are_in : (n : ℕ) (table rest : List ℕ) → length table ≡ 8 * n → keys_of n (table ++ rest) ≡ keys_of n table
+pub keys_are_in : (n : ℕ) (table rest : List ℕ) → length table ≡ 8 * n → keys_of n (table ++ rest) ≡ keys_of n table
 keys_are_in zero table rest size = refl
 keys_are_in (suc n) table rest size =
     let key = big_from-append 4 table rest (omega arith) in
@@ -126,10 +126,10 @@ behind_padding_3 n padding a b d table rest size =
     let split : padding ++ a ++ b ++ d ++ table ++ rest ≡ padding ++ (a ++ b ++ d ++ table ++ rest) = simp append_assoc in
     rw split (drop_at padding (a ++ b ++ d ++ table ++ rest) n size)
 
-length_4 : (padding a b table : List ℕ) → length (padding ++ a ++ b ++ table) ≡ length padding + length a + length b + length table
+pub length_4 : (padding a b table : List ℕ) → length (padding ++ a ++ b ++ table) ≡ length padding + length a + length b + length table
 length_4 padding a b table = simp length-append
 
-length_5 : (padding a b d table : List ℕ) → length (padding ++ a ++ b ++ d ++ table) ≡ length padding + length a + length b + length d + length table
+pub length_5 : (padding a b d table : List ℕ) → length (padding ++ a ++ b ++ d ++ table) ≡ length padding + length a + length b + length d + length table
 length_5 padding a b d table = simp length-append
 
 table_switch_is_read : (pc : ℕ) (other low high : ℤ) (at : ℕ) (table rest : List ℕ) → IsInsn pc (TableSwitch other low high at) table → IsRead pc (TableSwitch other low high at) table rest
