@@ -1,1 +1,3 @@
 pub mod NameSteps
+pub mod EscapeLaws
+pub mod NumberLaws

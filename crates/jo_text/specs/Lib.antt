@@ -4,4 +4,6 @@ pub mod Scan
 pub mod Mutf8
 pub mod Lines
 pub mod Escapes
+pub mod EscapeScan
 pub mod Numbers
+pub mod NumberScan
