@@ -4,3 +4,5 @@ pub mod DescriptorFields
 pub mod DescriptorMethods
 pub mod TextScan
 pub mod Mutf8Leads
+pub mod EscapeLaws
+pub mod NumberLaws

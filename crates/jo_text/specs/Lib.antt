@@ -5,4 +5,6 @@ pub mod CharScan
 pub mod Mutf8
 pub mod Lines
 pub mod Escapes
+pub mod EscapeScan
 pub mod Numbers
+pub mod NumberScan
