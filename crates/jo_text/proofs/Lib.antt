@@ -6,3 +6,5 @@ pub mod TextScan
 pub mod Mutf8Leads
 pub mod EscapeLaws
 pub mod NumberLaws
+pub mod Utf8Leads
+pub mod Utf8Stops

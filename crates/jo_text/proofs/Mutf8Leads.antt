@@ -1,12 +1,12 @@
 -- Which bytes follow the first byte of a character in modified UTF-8.
 use Rattle.std.proofs.Common.{◌≡◌, ◌⊎◌, ℕ, zero, suc, ◌+◌, ◌-◌, ◌*◌, ◌/◌, ◌%◌, ◌<◌, ◌≤◌, Bool, cond, true, false, List, [], ◌∷◌, ◌++◌, refl, sym, ap, subst, ◌∙◌, inl, inr, arith, lit≤, lit<}
 use Rattle.std.proofs.lemmas.Bool.{cases_lt}
-use Rattle.std.proofs.lemmas.Option.{same_Some}
 use Rattle.std.proofs.lemmas.Bool.Decides.{nat_tests}
 use Rattle.std.specs.Prelude.{Option, Some, None, MatchOption}
 use Rattle.std.specs.Prelude.{◌==◌}
 use Rattle.std.specs.Int.{is_in_range}
 use Rattle.std.specs.List.{flat_map, AllByRecursion}
+use Rattle.jo_text.proofs.TextScan.{by_test, lead_goes_on, two_bytes, three_bytes, Spells, Follows}
 use Rattle.jo_text.specs.CharScan.{continued, mutf8_lead, Completes, Awaits, GoesOn}
 use Rattle.jo_text.specs.Mutf8.{mutf8_of, IsMutf8}
 use Rattle.jo_text.specs.declared.mutf8.Awaited.{Awaited}
@@ -45,17 +45,15 @@ leads_least b is = rw is refl
 leads_three : (b : ℕ) → 0xE1 ≤ b → b ≤ 0xEF → mutf8_lead b ≡ Some (continued 2)
 leads_three b more less = grind (arith, nat_tests)
 
--- a text that begins with the byte, and what follows
-abbrev Follows : ℕ → List ℕ → Type 0
-Follows b rest = (a : Awaited) × (mutf8_lead b ≡ Some a) × Completes IsMutf8 a.count a.least a.most rest
+-- ---- a text that begins with a byte
 
 module _ (b : ℕ) (rest : List ℕ) where
-  begins_char : (c : ℕ) (more : List ℕ) → c < 0x1_0000 → b ∷ rest ≡ mutf8_of c ++ more → IsMutf8 more → Follows b rest
+  begins_char : (c : ℕ) (more : List ℕ) → c < 0x1_0000 → b ∷ rest ≡ mutf8_of c ++ more → IsMutf8 more → Follows IsMutf8 (mutf8_lead b) rest
   begins_char c more fits is h = by (cases_lt 0 c) (cases_lt c 0x80) (cases_lt c 0x800)
     where
       at : (spelled : List ℕ) → mutf8_of c ≡ spelled → b ∷ rest ≡ spelled ++ more
       at spelled e = is ∙ ap (λ (s : List ℕ). s ++ more) e
-      by : (0 < c) ⊎ (c ≤ 0) → (c < 0x80) ⊎ (0x80 ≤ c) → (c < 0x800) ⊎ (0x800 ≤ c) → Follows b rest
+      by : (0 < c) ⊎ (c ≤ 0) → (c < 0x80) ⊎ (0x80 ≤ c) → (c < 0x800) ⊎ (0x800 ≤ c) → Follows IsMutf8 (mutf8_lead b) rest
       by (inr none) _ _ =
           let e = at (0xC0 ∷ 0x80 ∷ []) (spells_zero c (omega arith)) in
           let first : b ≡ 0xC0 = cc in
@@ -77,14 +75,14 @@ module _ (b : ℕ) (rest : List ℕ) where
           let second : rest ≡ (0x80 + c / 64 % 64) ∷ (0x80 + c % 64) ∷ more = cc in
           least first second (cases_lt 0xE0 b)
         where
-          least : b ≡ 0xE0 + c / 4096 → rest ≡ (0x80 + c / 64 % 64) ∷ (0x80 + c % 64) ∷ more → (0xE0 < b) ⊎ (b ≤ 0xE0) → Follows b rest
+          least : b ≡ 0xE0 + c / 4096 → rest ≡ (0x80 + c / 64 % 64) ∷ (0x80 + c % 64) ∷ more → (0xE0 < b) ⊎ (b ≤ 0xE0) → Follows IsMutf8 (mutf8_lead b) rest
           least first second (inl more) = (_, leads_three b (omega arith) (omega arith), rw second (omega arith, omega arith, (omega arith, omega arith, h)))
           least first second (inr less) = (_, leads_least b (omega arith), rw second (omega arith, omega arith, (omega arith, omega arith, h)))
 
-  begins_text : IsMutf8 (b ∷ rest) → Follows b rest
+  begins_text : IsMutf8 (b ∷ rest) → Follows IsMutf8 (mutf8_lead b) rest
   begins_text h = by h.0 h.1 h.2
     where
-      by : (cs : List ℕ) → AllByRecursion (λ c. c < 0x1_0000) cs → b ∷ rest ≡ flat_map mutf8_of cs → Follows b rest
+      by : (cs : List ℕ) → AllByRecursion (λ c. c < 0x1_0000) cs → b ∷ rest ≡ flat_map mutf8_of cs → Follows IsMutf8 (mutf8_lead b) rest
       by [] fit is = absurd cc
       by (c ∷ cs) fit is = begins_char c (flat_map mutf8_of cs) fit.0 is (cs, fit.1, refl)
 
@@ -103,8 +101,10 @@ cons_pair b y rest low high y_low y_high h =
     let second : 0x80 + c % 64 ≡ y = omega arith in
     cons_char c (b ∷ y ∷ []) rest (omega arith) (spells_two c (omega arith) (omega arith) ∙ cc) h
 
-cons_triple : (b y z : ℕ) (rest : List ℕ) → 0xE0 ≤ b → b ≤ 0xEF → 0xE0A0 ≤ b * 256 + y → 0x80 ≤ y → y ≤ 0xBF → 0x80 ≤ z → z ≤ 0xBF → IsMutf8 rest → IsMutf8 (b ∷ y ∷ z ∷ rest)
-cons_triple b y z rest low high least y_low y_high z_low z_high h =
+-- the second byte is at least `least`
+cons_triple : (b : ℕ) → 0xE0 ≤ b → b ≤ 0xEF → (least : ℕ) → 0x80 ≤ least → 0xE0A0 ≤ b * 256 + least
+    → (y z : ℕ) (rest : List ℕ) → least ≤ y → y ≤ 0xBF → 0x80 ≤ z → z ≤ 0xBF → IsMutf8 rest → IsMutf8 (b ∷ y ∷ z ∷ rest)
+cons_triple b low high least above past y z rest y_low y_high z_low z_high h =
     let c : ℕ = (b - 0xE0) * 4096 + (y - 0x80) * 64 + (z - 0x80) in
     let first : 0xE0 + c / 4096 ≡ b = omega arith in
     let second : 0x80 + c / 64 % 64 ≡ y = omega arith in
@@ -113,58 +113,20 @@ cons_triple b y z rest low high least y_low y_high z_low z_high h =
 
 -- ---- each first byte
 
-abbrev Spells : ℕ → Awaited → Type 0
-Spells b a = (a.least ≤ a.most) × ((rest : List ℕ) → Completes IsMutf8 a.count a.least a.most rest → IsMutf8 (b ∷ rest))
-
-one_byte : (b : ℕ) → 0 < b → b < 0x80 → Spells b (continued 0)
-one_byte b more less = (lit≤ tt, λ rest h. cons_char b (b ∷ []) rest (omega arith) (spells_one b more less) h)
-
-two_bytes : (b least most : ℕ) → least ≤ most → ((y : ℕ) (rest : List ℕ) → least ≤ y → y ≤ most → IsMutf8 rest → IsMutf8 (b ∷ y ∷ rest)) → Spells b (record { count = 1; least = least; most = most })
-two_bytes b least most some cons = (some, λ rest h. by rest h)
-  where
-    by : (rest : List ℕ) → Completes IsMutf8 1 least most rest → IsMutf8 (b ∷ rest)
-    by [] h = absurd h
-    by (y ∷ rest) h = cons y rest h.0 h.1 h.2
-
-three_bytes : (b least : ℕ) → 0xE0 ≤ b → b ≤ 0xEF → 0x80 ≤ least → least ≤ 0xBF → 0xE0A0 ≤ b * 256 + least → Spells b (record { count = 2; least = least; most = 0xBF })
-three_bytes b least low high least_low least_high first = (least_high, λ rest h. by rest h)
-  where
-    by : (rest : List ℕ) → Completes IsMutf8 2 least 0xBF rest → IsMutf8 (b ∷ rest)
-    by [] h = absurd h
-    by (y ∷ []) h = absurd h.2
-    by (y ∷ z ∷ rest) h = cons_triple b y z rest low high (omega arith) (omega arith) h.1 h.2.0 h.2.1 h.2.2
-
-by_test : {A : Type 0} (P : A → Type 0) (t : Bool) (x y : A) → (t ≡ true → P x) → (t ≡ false → P y) → P (cond t x y)
-by_test P true x y holds fails = holds refl
-by_test P false x y holds fails = fails refl
-
-lead_spells : (b : ℕ) → MatchOption (mutf8_lead b) (Unit {0}) (Spells b)
+lead_spells : (b : ℕ) → MatchOption (mutf8_lead b) (Unit {0}) (Spells IsMutf8 b)
 lead_spells b =
-    let P : Option Awaited → Type 0 = λ o. MatchOption o (Unit {0}) (Spells b) in
+    let P : Option Awaited → Type 0 = λ o. MatchOption o (Unit {0}) (Spells IsMutf8 b) in
     by_test P (is_in_range 0x01 0x7F b) _ _
-    (λ is. one_byte b (grind (arith, nat_tests)) (grind (arith, nat_tests)))
+    (λ is. (lit≤ tt, λ rest h. let more : 0 < b = grind (arith, nat_tests) in let less : b < 0x80 = grind (arith, nat_tests) in cons_char b (b ∷ []) rest (omega arith) (spells_one b more less) h))
     (λ _. by_test P (b == 0xC0) _ _
-    (λ is. two_bytes b 0x80 0x80 (lit≤ tt) (λ y rest low high h. cons_zero b y rest (grind (arith, nat_tests)) (omega arith) h))
+    (λ is. two_bytes IsMutf8 b 0x80 0x80 (lit≤ tt) (λ y rest low high h. cons_zero b y rest (grind (arith, nat_tests)) (omega arith) h))
     (λ _. by_test P (is_in_range 0xC2 0xDF b) _ _
-    (λ is. two_bytes b 0x80 0xBF (lit≤ tt) (λ y rest low high h. cons_pair b y rest (grind (arith, nat_tests)) (grind (arith, nat_tests)) low high h))
+    (λ is. two_bytes IsMutf8 b 0x80 0xBF (lit≤ tt) (λ y rest low high h. cons_pair b y rest (grind (arith, nat_tests)) (grind (arith, nat_tests)) low high h))
     (λ _. by_test P (b == 0xE0) _ _
-    (λ is. three_bytes b 0xA0 (grind (arith, nat_tests)) (grind (arith, nat_tests)) (lit≤ tt) (lit≤ tt) (grind (arith, nat_tests)))
+    (λ is. three_bytes IsMutf8 b 0xA0 0xBF (lit≤ tt) (cons_triple b (grind (arith, nat_tests)) (grind (arith, nat_tests)) 0xA0 (lit≤ tt) (grind (arith, nat_tests))))
     (λ _. by_test P (is_in_range 0xE1 0xEF b) _ _
-    (λ is. three_bytes b 0x80 (grind (arith, nat_tests)) (grind (arith, nat_tests)) (lit≤ tt) (lit≤ tt) (grind (arith, nat_tests)))
+    (λ is. three_bytes IsMutf8 b 0x80 0xBF (lit≤ tt) (cons_triple b (grind (arith, nat_tests)) (grind (arith, nat_tests)) 0x80 (lit≤ tt) (grind (arith, nat_tests))))
     (λ _. tt)))))
 
 pub mutf8_goes_on : (b : ℕ) → GoesOn IsMutf8 [] b (mutf8_lead b)
-mutf8_goes_on b = by (mutf8_lead b) refl (lead_spells b)
-  where
-    by : (o : Option Awaited) → mutf8_lead b ≡ o → MatchOption o (Unit {0}) (Spells b) → GoesOn IsMutf8 [] b o
-    by None e h = λ t. let f = begins_text b t.0 t.1 in let is : Some f.0 ≡ None = sym f.1 ∙ e in absurd cc
-    by (Some a) e h = record {
-      some = h.0;
-      exact = λ rest. (
-        λ t.
-        let f = begins_text b rest t in
-        let same : f.0 ≡ a = same_Some f.0 a (sym f.1 ∙ e) in
-        subst (λ (x : Awaited). Completes IsMutf8 x.count x.least x.most rest) same f.2,
-        h.1 rest,
-      );
-    }
+mutf8_goes_on b = lead_goes_on IsMutf8 b (mutf8_lead b) (begins_text b) (lead_spells b)

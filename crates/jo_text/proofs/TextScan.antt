@@ -1,6 +1,7 @@
 -- Bytes read one by one against a grammar whose characters are bytes in ranges: modified UTF-8 and UTF-8.
-use Rattle.std.proofs.Common.{◌≡◌, ℕ, zero, suc, ◌+◌, ◌-◌, ◌<◌, ◌≤◌, ◌↔◌, List, [], ◌∷◌, ◌++◌, length, take, drop, get_or, refl, sym, ap, subst, ◌∙◌, append_assoc, append-nil, arith, lit≤, take_all, length-take}
-use Rattle.std.proofs.lemmas.List.{take_more, drop_more, take-append-drop}
+use Rattle.std.proofs.Common.{◌≡◌, ℕ, zero, suc, ◌+◌, ◌-◌, ◌<◌, ◌≤◌, ◌↔◌, Bool, true, false, cond, List, [], ◌∷◌, ◌++◌, length, take, drop, get_or, refl, sym, ap, subst, ◌∙◌, append_assoc, append-nil, arith, lit≤, take_all, length-take}
+use Rattle.std.proofs.lemmas.List.{take_more, take-append-drop}
+use Rattle.std.proofs.lemmas.Option.{same_Some}
 use Rattle.std.specs.Prelude.{Option, Some, None, MatchOption}
 use Rattle.jo_text.specs.Texts.{BeginsText, StopsAt}
 use Rattle.jo_text.specs.CharScan.{continued, Completes, Awaits, GoesOn}
@@ -79,3 +80,70 @@ module _ (IsText : List ℕ → Type 0) where
         there = λ _. stops;
         whole = λ t. stops (drop (i + 1) bytes, subst IsText (sym (take-append-drop (i + 1) bytes)) t);
       }
+
+  -- ---- the byte at a place, where the bytes before it are read
+
+  module _ (bytes : List ℕ) (i : ℕ) (a : Awaited) (h : Awaits IsText (take i bytes) a) (lt : i < length bytes) where
+    pub leads_at : (lead : Option Awaited) → IsText [] → a.count ≡ 0 → GoesOn IsText [] (get_or bytes i 0) lead → MatchOption lead (StopsAt IsText bytes i) (Awaits IsText (take (i + 1) bytes))
+    leads_at None empty none g = stops_at bytes i a empty h lt (byte_leads (take i bytes) a _ h None none g)
+    leads_at (Some b) empty none g = rw (take_more bytes i 0 lt) (byte_leads (take i bytes) a _ h (Some b) none g)
+
+    module _ (more : a.count ≡ 0 → ⊥) where
+      pub within_at : a.least ≤ get_or bytes i 0 → get_or bytes i 0 ≤ a.most → (j : ℕ) → j ≡ i + 1 → Awaits IsText (take j bytes) (continued (a.count - 1))
+      within_at low high j next = rw (next, take_more bytes i 0 lt) (byte_within (take i bytes) a _ h more _ refl low high)
+
+      pub outside_at : IsText [] → (a.least ≤ get_or bytes i 0 → get_or bytes i 0 ≤ a.most → ⊥) → StopsAt IsText bytes i
+      outside_at empty out = stops_at bytes i a empty h lt (byte_outside (take i bytes) a _ h more out)
+
+  -- ---- the first byte of a character, for a function that says what each asks for
+
+  -- what follows the byte is as awaited, and what is awaited makes a text with it
+  abbrev pub Spells : ℕ → Awaited → Type 0
+  Spells b a = (a.least ≤ a.most) × ((rest : List ℕ) → Completes IsText a.count a.least a.most rest → IsText (b ∷ rest))
+
+  abbrev pub Follows : Option Awaited → List ℕ → Type 0
+  Follows lead rest = (a : Awaited) × (lead ≡ Some a) × Completes IsText a.count a.least a.most rest
+
+  pub lead_goes_on : (b : ℕ) (lead : Option Awaited) → ((rest : List ℕ) → IsText (b ∷ rest) → Follows lead rest) → MatchOption lead (Unit {0}) (Spells b) → GoesOn IsText [] b lead
+  lead_goes_on b None follows h = λ t. let f = follows t.0 t.1 in let is = f.1 in absurd cc
+  lead_goes_on b (Some a) follows h = record {
+    some = h.0;
+    exact = λ rest. (
+      λ t.
+      let f = follows rest t in
+      let P : Awaited → Type 0 = λ x. Completes IsText x.count x.least x.most rest in
+      subst P (sym (same_Some a f.0 f.1)) f.2,
+      h.1 rest,
+    );
+  }
+
+  module _ (b least most : ℕ) (some : least ≤ most) where
+    pub two_bytes : ((y : ℕ) (rest : List ℕ) → least ≤ y → y ≤ most → IsText rest → IsText (b ∷ y ∷ rest)) → Spells b (record { count = 1; least = least; most = most })
+    two_bytes cons = (some, λ rest h. by rest h)
+      where
+        by : (rest : List ℕ) → Completes IsText 1 least most rest → IsText (b ∷ rest)
+        by [] h = absurd h
+        by (y ∷ rest) h = cons y rest h.0 h.1 h.2
+
+    pub three_bytes : ((y z : ℕ) (rest : List ℕ) → least ≤ y → y ≤ most → 0x80 ≤ z → z ≤ 0xBF → IsText rest → IsText (b ∷ y ∷ z ∷ rest))
+        → Spells b (record { count = 2; least = least; most = most })
+    three_bytes cons = (some, λ rest h. by rest h)
+      where
+        by : (rest : List ℕ) → Completes IsText 2 least most rest → IsText (b ∷ rest)
+        by [] h = absurd h
+        by (y ∷ []) h = absurd h.2
+        by (y ∷ z ∷ rest) h = cons y z rest h.0 h.1 h.2.0 h.2.1 h.2.2
+
+    pub four_bytes : ((y z w : ℕ) (rest : List ℕ) → least ≤ y → y ≤ most → 0x80 ≤ z → z ≤ 0xBF → 0x80 ≤ w → w ≤ 0xBF → IsText rest → IsText (b ∷ y ∷ z ∷ w ∷ rest))
+        → Spells b (record { count = 3; least = least; most = most })
+    four_bytes cons = (some, λ rest h. by rest h)
+      where
+        by : (rest : List ℕ) → Completes IsText 3 least most rest → IsText (b ∷ rest)
+        by [] h = absurd h
+        by (y ∷ []) h = absurd h.2
+        by (y ∷ z ∷ []) h = absurd h.2.2
+        by (y ∷ z ∷ w ∷ rest) h = cons y z w rest h.0 h.1 h.2.0 h.2.1 h.2.2.0 h.2.2.1 h.2.2.2
+
+pub by_test : {A : Type 0} (P : A → Type 0) (t : Bool) (x y : A) → (t ≡ true → P x) → (t ≡ false → P y) → P (cond t x y)
+by_test P true x y holds fails = holds refl
+by_test P false x y holds fails = fails refl
