@@ -1,5 +1,5 @@
 -- The head of a switch, as the encoder builds it.
-use Rattle.std.proofs.Common.{◌≡◌, ℕ, zero, suc, ◌+◌, ◌-◌, ◌*◌, ◌<◌, ◌≤◌, List, [], ◌∷◌, ◌++◌, length, take, drop, set, replicate, arith, ap}
+use Rattle.std.proofs.Common.{◌≡◌, ℕ, zero, suc, ◌+◌, ◌-◌, ◌*◌, ◌<◌, List, [], ◌∷◌, ◌++◌, length, take, drop, set, replicate, arith, ap}
 use Rattle.std.proofs.lemmas.List.{append-nil, append_assoc, take_at}
 use borrow.Rule.Slice.PartMut.{put_mid}
 

@@ -1,5 +1,5 @@
 -- What is read at a pc is spelled there, with some padding, one kind of operands after the other.
-use Rattle.std.proofs.Common.{◌≡◌, ℕ, zero, suc, ◌+◌, ◌-◌, ◌*◌, ◌%◌, ◌^◌, ◌<◌, ◌≤◌, nat_lt, nat_le, Bool, true, false, ◌&&◌, ◌==◌, if◌then◌else◌, List, [], ◌∷◌, ◌++◌, length, take, drop, replicate, Option, Some, None, option_map, Result, Ok, Err, refl, sym, ap, subst, ◌∙◌, arith}
+use Rattle.std.proofs.Common.{◌≡◌, ℕ, suc, ◌+◌, ◌-◌, ◌*◌, ◌^◌, ◌<◌, ◌≤◌, nat_lt, nat_le, Bool, true, false, ◌&&◌, ◌==◌, if◌then◌else◌, List, [], ◌∷◌, ◌++◌, length, take, drop, replicate, Option, Some, None, option_map, Result, Ok, Err, refl, sym, ap, subst, ◌∙◌, arith}
 use Rattle.std.specs.Prelude.{ℤ, ◌≤ℤ◌, int_lt}
 use Rattle.std.specs.Int.{w8, w16, w32}
 use Rattle.std.proofs.lemmas.Bool.{and_parts, cond_both, eqb-true, leb-false, ltb-false}
@@ -14,7 +14,7 @@ use Rattle.jo_insn.specs.declared.instructions.InsnFault.{InsnFault}
 use Rattle.jo_insn.specs.declared.instructions.InsnFault.TheVariants.{Cut, Unknown, Outside, Malformed}
 use Rattle.byteorder.specs.Endian.{big_bytes}
 use Rattle.jo_insn.specs.Opcodes.{Opcode, opcodes, first_row, row_of, operands_of}
-use Rattle.jo_insn.specs.Instructions.{IsInsn, spelled, spelled_with, number_in, signed_in, padding_at, ◌>>=◌, with_operands, widened, behind_wide, array_of, is_array_kind, is_wide_kind, with_offsets, table_switch, with_pairs, lookup_switch, decoded, decoded_from, IsReadAs, offsets_at, pairs_at, offsets_between, keys_of, rises, s4}
+use Rattle.jo_insn.specs.Instructions.{IsInsn, spelled, spelled_with, number_in, signed_in, padding_at, ◌>>=◌, with_operands, widened, array_of, is_array_kind, is_wide_kind, with_offsets, with_pairs, decoded, decoded_from, IsReadAs, offsets_at, pairs_at, offsets_between, keys_of, rises, s4}
 use Rattle.jo_insn.proofs.SpelledIsDecoded.{keys_are_in, length_4, length_5}
 use Rattle.jo_insn.proofs.Numbers.{AreBytes, are_bytes, Reads, ReadsSigned, bytes_behind, byte_read, number_read, signed_read}
 

@@ -1,5 +1,5 @@
 -- What is spelled at a pc is read there, one kind of instruction after the other.
-use Rattle.std.proofs.Common.{◌≡◌, ℕ, zero, suc, ◌+◌, ◌-◌, ◌*◌, ◌%◌, ◌^◌, ◌<◌, ◌≤◌, Bool, true, false, List, [], ◌∷◌, ◌++◌, length, drop, replicate, Option, Some, None, Ok, refl, sym, ap, ◌∙◌, arith, length-append}
+use Rattle.std.proofs.Common.{◌≡◌, ℕ, zero, suc, ◌+◌, ◌*◌, ◌^◌, ◌<◌, Bool, true, false, List, ◌++◌, length, drop, replicate, Option, Some, Ok, refl, arith, length-append}
 use Rattle.std.specs.Prelude.{ℤ, ◌≤ℤ◌, int_lt}
 use Rattle.std.proofs.lemmas.Bool.{le-ltb, lt-leb}
 use Rattle.std.proofs.lemmas.Int.{ints}
@@ -9,11 +9,11 @@ use Rattle.byteorder.specs.Numbers.{big_from-append}
 use Rattle.std.specs.Int.{w8, w16, w32}
 use Rattle.std.specs.Int.RustNames.{FitsSigned}
 use Rattle.jo_insn.specs.declared.opcodes.Operands.{Operands}
-use Rattle.jo_insn.specs.declared.opcodes.Operands.TheVariants.{NoOperand, SignedByte, SignedShort, LocalByte, LocalAndStep, WidePrefix, PoolByte, PoolShort, PoolShortAndTwo, ArrayKind, OffsetShort, OffsetInt, OffsetTable, KeyTable}
+use Rattle.jo_insn.specs.declared.opcodes.Operands.TheVariants.{SignedByte, SignedShort, LocalAndStep, WidePrefix, PoolByte, PoolShort, PoolShortAndTwo, ArrayKind, OffsetShort, OffsetInt, OffsetTable, KeyTable}
 use Rattle.jo_insn.specs.declared.instructions.Insn.{Insn}
 use Rattle.jo_insn.specs.declared.instructions.Insn.TheVariants.{Plain, Local, Iinc, Push, Pooled, Array, Jump, TableSwitch, LookupSwitch}
 use Rattle.jo_insn.specs.Opcodes.{opcodes, row_of, operands_of}
-use Rattle.jo_insn.specs.Instructions.{CanPush, CanName, CanJump, IsInsn, spelled, spelled_push, spelled_index, spelled_offset, s1, s2, s4, u2, decoded, decoded_from, with_operands, number_in, signed_in, padding_at, offsets_at, pairs_at, offsets_between, keys_of, rises, table_switch, lookup_switch}
+use Rattle.jo_insn.specs.Instructions.{CanPush, CanName, CanJump, IsInsn, spelled, spelled_push, spelled_index, spelled_offset, s1, s2, s4, decoded, decoded_from, with_operands, padding_at, offsets_at, pairs_at, offsets_between, keys_of, rises, table_switch, lookup_switch}
 use Rattle.jo_insn.proofs.Numbers.{number_in_byte, number_in_bytes, number_in_enough, signed_in_bytes}
 
 -- the opcodes that a spelling names

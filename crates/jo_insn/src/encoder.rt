@@ -144,3 +144,122 @@ fn add_both(head: &[u8], table: &[u8], code: &mut Vec<u8>) -> Result<(), Memory>
     code.extend_from_slice(head)?;
     code.extend_from_slice(table)
 }
+
+#[cfg(test)]
+mod tests {
+    use super::*;
+    use std::test::Fail;
+
+    /// Whether these are the bytes of an instruction.
+    fn is_coded(
+        rt: &impl AllocGlobal,
+        pc: u32,
+        insn: Insn,
+        table: &[u8],
+        bytes: &[u8],
+    ) -> Result<bool, Fail>
+        requires { IsInsn pc insn table.now }
+    {
+        let mut code = Vec::new(rt.alloc());
+        encode(&insn, table, pc, &mut code)?;
+        Ok(code.as_slice() == bytes)
+    }
+
+    #[test]
+    #[tactic(auto, unfolding(crate::specs::Opcodes::opcodes, crate::specs::Opcodes::row_of))]
+    fn locals_are_narrow_or_wide(rt: HostRuntime) -> Result<(), Fail> {
+        let iload_4 = Insn::Local {
+            op: 0x15,
+            index: 4,
+            wide: false,
+        };
+        assert!(rt; is_coded(&rt, 0, iload_4, &[], &[0x15, 0x04])?);
+        let aload_300 = Insn::Local {
+            op: 0x19,
+            index: 300,
+            wide: true,
+        };
+        assert!(rt; is_coded(&rt, 0, aload_300, &[], &[0xc4, 0x19, 0x01, 0x2c])?);
+        let less = Insn::Iinc {
+            index: 1,
+            by: -1,
+            wide: false,
+        };
+        assert!(rt; is_coded(&rt, 0, less, &[], &[0x84, 0x01, 0xff])?);
+        let more = Insn::Iinc {
+            index: 256,
+            by: 1000,
+            wide: true,
+        };
+        assert!(rt; is_coded(&rt, 0, more, &[], &[0xc4, 0x84, 0x01, 0x00, 0x03, 0xe8])?);
+        Ok(())
+    }
+
+    #[test]
+    #[tactic(auto, unfolding(crate::specs::Opcodes::opcodes, crate::specs::Opcodes::row_of))]
+    fn operands_have_their_bytes(rt: HostRuntime) -> Result<(), Fail> {
+        assert!(rt; is_coded(&rt, 0, Insn::Plain(0x60), &[], &[0x60])?);
+        let bipush = Insn::Push {
+            op: 0x10,
+            value: -128,
+        };
+        assert!(rt; is_coded(&rt, 0, bipush, &[], &[0x10, 0x80])?);
+        let sipush = Insn::Push {
+            op: 0x11,
+            value: -2,
+        };
+        assert!(rt; is_coded(&rt, 0, sipush, &[], &[0x11, 0xff, 0xfe])?);
+        let ldc = Insn::Pooled { op: 0x12, index: 5 };
+        assert!(rt; is_coded(&rt, 0, ldc, &[], &[0x12, 0x05])?);
+        let invokestatic = Insn::Pooled {
+            op: 0xb8,
+            index: 258,
+        };
+        assert!(rt; is_coded(&rt, 0, invokestatic, &[], &[0xb8, 0x01, 0x02])?);
+        let invokeinterface = Insn::Pooled { op: 0xb9, index: 7 };
+        assert!(rt; is_coded(&rt, 0, invokeinterface, &[2, 0], &[0xb9, 0, 7, 2, 0])?);
+        assert!(rt; is_coded(&rt, 0, Insn::Array(10), &[], &[0xbc, 0x0a])?);
+        let goto = Insn::Jump { op: 0xa7, by: -3 };
+        assert!(rt; is_coded(&rt, 0, goto, &[], &[0xa7, 0xff, 0xfd])?);
+        let goto_w = Insn::Jump {
+            op: 0xc8,
+            by: 70000,
+        };
+        assert!(rt; is_coded(&rt, 0, goto_w, &[], &[0xc8, 0x00, 0x01, 0x11, 0x70])?);
+        Ok(())
+    }
+
+    #[test]
+    fn switches_are_padded_by_their_pc(rt: HostRuntime) -> Result<(), Fail> {
+        let offsets = [0, 0, 0, 0x14, 0, 0, 0, 0x18];
+        let table = Insn::TableSwitch {
+            other: 16,
+            low: 1,
+            high: 2,
+            at: 16,
+        };
+        let at_0 = [
+            0xaa, 0, 0, 0, 0, 0, 0, 0x10, 0, 0, 0, 1, 0, 0, 0, 2, 0, 0, 0, 0x14, 0, 0, 0, 0x18,
+        ];
+        assert!(rt; is_coded(&rt, 0, table, &offsets, &at_0)?);
+        let at_3 = [
+            0xaa, 0, 0, 0, 0x10, 0, 0, 0, 1, 0, 0, 0, 2, 0, 0, 0, 0x14, 0, 0, 0, 0x18,
+        ];
+        assert!(rt; is_coded(&rt, 3, table, &offsets, &at_3)?);
+        let pairs = [0, 0, 0, 5, 0, 0, 0, 0x20];
+        let lookup = Insn::LookupSwitch {
+            other: -16,
+            pairs: 1,
+            at: 12,
+        };
+        let at_1 = [
+            0xab, 0, 0, 0xff, 0xff, 0xff, 0xf0, 0, 0, 0, 1, 0, 0, 0, 5, 0, 0, 0, 0x20,
+        ];
+        assert!(rt; is_coded(&rt, 1, lookup, &pairs, &at_1)?);
+        let at_2 = [
+            0xab, 0, 0xff, 0xff, 0xff, 0xf0, 0, 0, 0, 1, 0, 0, 0, 5, 0, 0, 0, 0x20,
+        ];
+        assert!(rt; is_coded(&rt, 2, lookup, &pairs, &at_2)?);
+        Ok(())
+    }
+}
