@@ -1,5 +1,6 @@
 -- Spellings of bytes and names.
-use Rattle.std.proofs.Common.{◌≡◌, ℕ, ◌<◌, ◌^◌, ◌/◌, ◌%◌, Bool, true, false, cond, List, [], ◌∷◌, ◌++◌, refl, sym, ◌∙◌, subst, arith}
+use Rattle.std.proofs.Common.{◌≡◌, ℕ, ◌<◌, ◌^◌, ◌/◌, ◌%◌, Bool, true, false, cond, List, [], ◌∷◌, ◌++◌, refl, sym, ap, ◌∙◌, subst, arith}
+use Rattle.std.specs.List.{AllByRecursion}
 use Rattle.std.proofs.lemmas.Bool.Decides.{nat_tests}
 use Rattle.jo_text.specs.Escapes.{hex_digit, is_escaped, escaped}
 use Rattle.jo_text.specs.EscapeScan.{BeginsByte, BeginsNoByte, IsSpellingOf, IsSpelling}
@@ -53,3 +54,17 @@ none_spelled text (b ∷ bs) none s = absurd (none b (escaped bs) (s.0.0, s.1))
 -- only the empty text is a name's and begins with no byte's
 pub spelling_none : (text : List ℕ) → BeginsNoByte text → IsSpelling text → text ≡ []
 spelling_none text none s = none_spelled text s.0 none s.1
+
+-- two names aren't spelled alike
+pub one_name : (one other : List ℕ) → AllByRecursion (λ byte. byte < 2 ^ 8) one → AllByRecursion (λ byte. byte < 2 ^ 8) other → escaped one ≡ escaped other → one ≡ other
+one_name [] [] l m e = refl
+one_name [] (b ∷ bs) l m e = absurd (some_begin (is_escaped b) b _ (escaped bs) e)
+one_name (a ∷ xs) [] l m e = absurd (some_begin (is_escaped a) a _ (escaped xs) (sym e))
+one_name (a ∷ xs) (b ∷ ys) l m e =
+    let parts = one_first_byte (escaped (a ∷ xs)) a b (escaped xs) (escaped ys) (l.0, refl) (m.0, e) in
+    let rest = one_name xs ys l.1 m.1 parts.1 in
+    ap (λ c. c ∷ xs) parts.0 ∙ ap (λ cs. b ∷ cs) rest
+
+pub all_bytes : (bytes : List ℕ) (byte : ℕ) → AllByRecursion (λ byte. byte < 2 ^ 8) bytes → byte < 2 ^ 8 → AllByRecursion (λ byte. byte < 2 ^ 8) (bytes ++ byte ∷ [])
+all_bytes [] byte all h = (h, tt)
+all_bytes (b ∷ bs) byte all h = (all.0, all_bytes bs byte all.1 h)

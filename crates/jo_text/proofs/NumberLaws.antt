@@ -7,7 +7,8 @@ use Rattle.std.specs.Result.{result_ok}
 use Rattle.std.specs.Str.{IsUtf8}
 use Rattle.std.specs.Str.Parse.{AllDigits, digits_value, ParsesSigned}
 use Rattle.std.proofs.lemmas.Bool.Decides.{nat_tests}
-use Rattle.std.proofs.lemmas.Fmt.{decimal_digit, first_decimal, decimal-digits_value, parse-signed_decimal, IsAscii-signed}
+use Rattle.std.proofs.lemmas.Fmt.{decimal_digit, first_decimal, decimal-digits_value, parse-signed_decimal, IsAscii-signed, signed_decimal_injective}
+use lib.Signed.{mag}
 use Rattle.std.proofs.lemmas.Str.{IsUtf8-from_ascii}
 use Rattle.std.proofs.lemmas.Str.Parse.{IsNumeralModel, numerals_by_value, tells_digits, parse_signed_minus, parse_signed_plain}
 use Rattle.jo_text.specs.Numbers.{IsNumber}
@@ -84,3 +85,11 @@ parsed {E} text (Ok number) plain h = parsed_number E (eqb (get_or text 0 0) 45)
 parsed {E} text (Err e) plain h = λ number n.
     let same = parse-signed_decimal w32 number text (Err e) n.0 (omega (arith, n.0.sfits)) n.1 h in
     absurd (cc)
+
+small : (number : ℤ) → FitsSigned w32 number → mag number < 2 ^ 63
+small (pos n) fits = omega (arith, fits)
+small (negsuc n) fits = omega (arith, fits)
+
+-- a text spells one number
+pub one_number : (text : List ℕ) (one other : ℤ) → IsNumber text one → IsNumber text other → one ≡ other
+one_number text one other h k = signed_decimal_injective one other (small one h.0) (small other k.0) (sym h.1 ∙ k.1)

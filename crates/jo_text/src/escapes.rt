@@ -82,6 +82,7 @@ fn first_byte(text: &[u8]) -> Option<(u8, &[u8])>
 /// The name with that spelling. `Bad` says that it is no name's.
 pub fn unescape(alloc: Global, text: &[u8]) -> Result<Name, DescFault>
     ensures name { IfOk result (λ name. text.now ≡ escaped name) }
+    ensures bytes { IfOk result (λ name. AllByRecursion (λ byte. byte < 2 ^ 8) name) }
     ensures bad { IfErr result (λ fault. fault ≡ Bad → (name : List ℕ) → AllByRecursion (λ byte. byte < 2 ^ 8) name → text.now ≡ escaped name → ⊥) }
 {
     let mut name = Vec::new(alloc);

@@ -1,4 +1,5 @@
-use Rattle.std.proofs.Common.{◌≡◌, ◌++◌, length}
+use Rattle.std.proofs.Common.{◌≡◌, ◌<◌, ◌^◌, ◌++◌, length}
+use Rattle.std.specs.List.{AllByRecursion}
 use Rattle.jo_text.specs.Escapes.{escaped}
 use Rattle.jo_text.specs.EscapeScan.{IsSpelling}
 use Rattle.jo_text.proofs.escapes.unescape.Given as goal
@@ -7,6 +8,7 @@ use Rattle.jo_text.proofs.escapes.unescape.Given as goal
 abbrev pub invariant-loop-byte : goal.invariant-loop-byte
 invariant-loop-byte l = record {
   read : l.text ≡ escaped l.name.items ++ l.rest;
+  bytes : AllByRecursion (λ byte. byte < 2 ^ 8) l.name.items;
   left : IsSpelling l.text → IsSpelling l.rest;
 }
 
