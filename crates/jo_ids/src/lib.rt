@@ -120,3 +120,34 @@ pub type SiteId = Id<Sites>;
 pub type LevelId = Id<Levels>;
 
 pub type NodeId = Id<Nodes>;
+
+#[cfg(test)]
+mod tests {
+    use super::*;
+    use std::test::Fail;
+
+    #[test]
+    fn a_list_grows_at_its_end(rt: HostRuntime) -> Result<(), Fail> {
+        let mut words = List::new(rt.alloc());
+        assert!(rt; words.as_slice().is_empty());
+        for word in ["one", "two", "three"] {
+            let word = String::from_str(rt.alloc(), word)?;
+            words.push(word).map_err(|(_, refusal)| refusal)?;
+        }
+        let mut lengths = [0; 3];
+        for (length, word) in lengths.iter_mut().zip(words.as_slice()) {
+            *length = word.len();
+        }
+        assert_eq!(rt; words.as_slice().len(), 3);
+        assert_eq!(rt; lengths, [3, 3, 5]);
+        Ok(())
+    }
+
+    #[test]
+    fn an_id_has_its_number(rt: HostRuntime) {
+        for number in [0, 7, u32::MAX] {
+            let class: ClassId = Id::of(number);
+            assert_eq!(rt; class.number(), number);
+        }
+    }
+}

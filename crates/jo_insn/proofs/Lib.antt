@@ -1,1 +1,5 @@
 pub mod DecodedMoves
+pub mod EncodedSwitch
+pub mod Numbers
+pub mod SpelledIsDecoded
+pub mod SpelledFromDecoded

@@ -1,1 +1,10 @@
 pub mod NameSteps
+pub mod DescriptorNames
+pub mod DescriptorFields
+pub mod DescriptorMethods
+pub mod TextScan
+pub mod Mutf8Leads
+pub mod EscapeLaws
+pub mod NumberLaws
+pub mod Utf8Leads
+pub mod Utf8Stops

@@ -1,9 +1,9 @@
 //! Names and descriptors (JVM Specification SE 8, 4.2 and 4.3).
-ghost use Rattle.std.specs.Prelude.{◌≡◌, ◌≤◌, ◌==◌, length, ◌++◌, ◌↔◌, [], true, position, None, IsTrue, IfOk, IfErr};
+ghost use Rattle.std.specs.Prelude.{◌≡◌, ◌≤◌, ◌==◌, length, ◌++◌, ◌↔◌, [], true, position, None, IsTrue, IfOk, IfErr, MatchOption, option_map};
 ghost use Rattle.std.specs.Option.{option_copied};
 ghost use Rattle.std.specs.List.{list_any, prefix_len};
 ghost use Rattle.jo_text.specs.Descriptors.{is_one_of, IsClassName, IsMemberName, IsFieldDesc, IsMethodDesc, IsClassOrArray, SpellsField, SpellsMethod};
-ghost use Rattle.jo_text.specs.Scan.{after_byte, breaks_name, names_on};
+ghost use Rattle.jo_text.specs.Scan.{after_byte, breaks_name, names_on, base_seen, field_seen, read_class, letter_base, read_base, read_field, PassFields, BeginsFields, SpellsResult, IsResultDesc};
 ghost use Rattle.jo_text.specs.declared.texts.DescFault.TheVariants.{Bad};
 
 use crate::texts::{DescFault, Memory, Name};
@@ -60,6 +60,20 @@ impl Params {
 pub struct MethodDesc {
     pub params: Params,
     pub result: Option<FieldDesc>,
+}
+
+/// A base type, with the bytes of a class's name lent from its descriptor.
+#[derive(Drop)]
+enum BaseView<'a> {
+    Letter(Base),
+    Named(&'a [u8]),
+}
+
+/// A field descriptor, with the bytes of a class's name lent from it.
+#[derive(Drop)]
+struct FieldView<'a> {
+    dims: u8,
+    base: BaseView<'a>,
 }
 
 fn is_one_of(these: &[u8], byte: u8) -> bool
@@ -122,6 +136,157 @@ fn count_front(byte: u8, bytes: &[u8]) -> usize
     bytes.iter().take_while(|b| **b == byte).count()
 }
 
+/// The class's name that begins the bytes, up to a `;`, and what follows.
+#[tactic(auto, unfolding(crate::specs::Scan::read_class))]
+fn next_class(bytes: &[u8]) -> Option<(&[u8], &[u8])>
+    ensures { option_map (λ r. (r.0.now, r.1.now)) result ≡ read_class bytes.now }
+{
+    let end = place_of(b';', bytes)?;
+    let name = &bytes[..end];
+    if joins_names(name) {
+        Some((name, &bytes[end + 1..]))
+    } else {
+        None
+    }
+}
+
+/// The base type that is one letter.
+#[tactic(auto, unfolding(crate::specs::Scan::letter_base))]
+fn letter_base(letter: u8) -> Option<Base>
+    ensures { result ≡ letter_base letter }
+{
+    match letter {
+        b'B' => Some(Base::Byte),
+        b'C' => Some(Base::Char),
+        b'D' => Some(Base::Double),
+        b'F' => Some(Base::Float),
+        b'I' => Some(Base::Int),
+        b'J' => Some(Base::Long),
+        b'S' => Some(Base::Short),
+        b'Z' => Some(Base::Boolean),
+        _ => None,
+    }
+}
+
+/// The base type that begins the bytes, and what follows.
+#[tactic(auto, unfolding(crate::specs::Scan::read_base))]
+fn next_base(bytes: &[u8]) -> Option<(BaseView<'_>, &[u8])>
+    ensures { option_map (λ r. (base_seen r.0, r.1.now)) result ≡ read_base bytes.now }
+{
+    match bytes {
+        [] => None,
+        [b'L', rest @ ..] => {
+            let (name, rest) = next_class(rest)?;
+            Some((BaseView::Named(name), rest))
+        }
+        [letter, rest @ ..] => Some((BaseView::Letter(letter_base(*letter)?), rest)),
+    }
+}
+
+/// The field descriptor that begins the bytes, and what follows.
+#[tactic(auto, unfolding(crate::specs::Scan::read_field))]
+fn next_field(bytes: &[u8]) -> Option<(FieldView<'_>, &[u8])>
+    ensures { option_map (λ r. (field_seen r.0, r.1.now)) result ≡ read_field bytes.now }
+{
+    let front = count_front(b'[', bytes);
+    let dims = u8::try_from(front).ok()?;
+    let (base, rest) = next_base(&bytes[front..])?;
+    Some((FieldView { dims, base }, rest))
+}
+
+/// The field descriptor that the bytes are.
+fn whole_field(bytes: &[u8]) -> Option<FieldView<'_>>
+    ensures { MatchOption result (IsFieldDesc bytes.now → ⊥) (λ view. SpellsField (field_seen view) bytes.now) }
+{
+    let (view, rest) = next_field(bytes)?;
+    if rest.is_empty() { Some(view) } else { None }
+}
+
+/// What follows the field descriptor that begins the bytes.
+fn after_field(bytes: &[u8]) -> Option<&[u8]>
+    ensures { option_copied result ≡ option_map (λ r. r.1) (read_field bytes.now) }
+{
+    let (_, rest) = next_field(bytes)?;
+    Some(rest)
+}
+
+/// What follows the field descriptors that begin the bytes, as many as there are.
+fn after_fields(bytes: &[u8]) -> &[u8]
+    ensures passed { BeginsFields bytes.now result.now }
+    ensures all { read_field result.now ≡ None }
+{
+    let mut rest = bytes;
+    while let Some(after) = after_field(rest) {
+        rest = after;
+    }
+    rest
+}
+
+/// Whether the bytes are a result's descriptor: `V`, or a field descriptor.
+fn is_result_desc(bytes: &[u8]) -> bool
+    ensures { IsTrue result ↔ IsResultDesc bytes.now }
+{
+    bytes == b"V".as_slice() || is_field_desc(bytes)
+}
+
+/// The name with those bytes.
+fn own_name(alloc: Global, bytes: &[u8]) -> Result<Name, Memory>
+    ensures { IfOk result (λ name. name ≡ bytes.now) }
+{
+    let mut name = Name::new(alloc);
+    name.append(bytes)?;
+    Ok(name)
+}
+
+/// The base type with memory of its own.
+fn own_base(alloc: Global, view: BaseView<'_>) -> Result<Base, Memory>
+    ensures { IfOk result (λ base. base ≡ base_seen view.entry) }
+{
+    match view {
+        BaseView::Letter(base) => Ok(base),
+        BaseView::Named(name) => Ok(Base::Class(own_name(alloc, name)?)),
+    }
+}
+
+/// The field descriptor with memory of its own.
+fn own_field(alloc: Global, view: FieldView<'_>) -> Result<FieldDesc, Memory>
+    ensures { IfOk result (λ desc. desc ≡ field_seen view.entry) }
+{
+    let base = own_base(alloc, view.base)?;
+    Ok(FieldDesc {
+        dims: view.dims,
+        base,
+    })
+}
+
+/// The field descriptors that begin the bytes, as many as there are, and what follows.
+fn read_params(alloc: Global, bytes: &[u8]) -> Result<(Params, &[u8]), Memory>
+    ensures passed { IfOk result (λ r. PassFields r.0 bytes.now r.1.now) }
+    ensures all { IfOk result (λ r. read_field r.1.now ≡ None) }
+{
+    let mut descs = Vec::new(alloc);
+    let mut rest = bytes;
+    while let Some((view, after)) = next_field(rest) {
+        descs.push(own_field(alloc, view)?)?;
+        rest = after;
+    }
+    Ok((Params { descs }, rest))
+}
+
+/// The result that the bytes are. `Bad` says that they are none.
+fn read_result(alloc: Global, bytes: &[u8]) -> Result<Option<FieldDesc>, DescFault>
+    ensures desc { IfOk result (λ desc. SpellsResult desc bytes.now) }
+    ensures bad { IfErr result (λ fault. fault ≡ Bad → IsResultDesc bytes.now → ⊥) }
+{
+    if bytes == b"V".as_slice() {
+        return Ok(None);
+    }
+    match read_field_desc(alloc, bytes) {
+        Ok(desc) => Ok(Some(desc)),
+        Err(fault) => Err(fault),
+    }
+}
+
 /// Whether the bytes are the internal form of a class's name.
 pub fn is_class_name(bytes: &[u8]) -> bool
     ensures { IsTrue result ↔ IsClassName bytes.now }
@@ -140,21 +305,30 @@ pub fn is_member_name(bytes: &[u8]) -> bool
 pub fn is_field_desc(bytes: &[u8]) -> bool
     ensures { IsTrue result ↔ IsFieldDesc bytes.now }
 {
-    false
+    whole_field(bytes).is_some()
 }
 
 /// Whether the bytes are a method descriptor.
 pub fn is_method_desc(bytes: &[u8]) -> bool
     ensures { IsTrue result ↔ IsMethodDesc bytes.now }
 {
-    false
+    let Some(params) = after_byte(b'(', bytes) else {
+        return false;
+    };
+    match after_byte(b')', after_fields(params)) {
+        Some(outcome) => is_result_desc(outcome),
+        None => false,
+    }
 }
 
 /// Whether the bytes are what a Class entry may name: a class, or an array's descriptor.
 pub fn is_class_or_array(bytes: &[u8]) -> bool
     ensures { IsTrue result ↔ IsClassOrArray bytes.now }
 {
-    false
+    match after_byte(b'[', bytes) {
+        Some(_) => is_field_desc(bytes),
+        None => is_class_name(bytes),
+    }
 }
 
 /// The field descriptor that the bytes are. `Bad` says that they are none.
@@ -162,7 +336,10 @@ pub fn read_field_desc(alloc: Global, bytes: &[u8]) -> Result<FieldDesc, DescFau
     ensures desc { IfOk result (λ desc. SpellsField desc bytes.now) }
     ensures bad { IfErr result (λ fault. fault ≡ Bad → IsFieldDesc bytes.now → ⊥) }
 {
-    Err(DescFault::Memory)
+    let Some(view) = whole_field(bytes) else {
+        return Err(DescFault::Bad);
+    };
+    own_field(alloc, view).map_err(|_| DescFault::Memory)
 }
 
 /// The method descriptor that the bytes are. `Bad` says that they are none.
@@ -170,5 +347,18 @@ pub fn read_method_desc(alloc: Global, bytes: &[u8]) -> Result<MethodDesc, DescF
     ensures desc { IfOk result (λ desc. SpellsMethod desc bytes.now) }
     ensures bad { IfErr result (λ fault. fault ≡ Bad → IsMethodDesc bytes.now → ⊥) }
 {
-    Err(DescFault::Memory)
+    let Some(rest) = after_byte(b'(', bytes) else {
+        return Err(DescFault::Bad);
+    };
+    let Ok((params, rest)) = read_params(alloc, rest) else {
+        return Err(DescFault::Memory);
+    };
+    let Some(rest) = after_byte(b')', rest) else {
+        return Err(DescFault::Bad);
+    };
+    let outcome = read_result(alloc, rest)?;
+    Ok(MethodDesc {
+        params,
+        result: outcome,
+    })
 }

@@ -1,6 +1,9 @@
 //! Laws of the grammars.
-ghost use Rattle.std.specs.Prelude.{◌≡◌, ℕ, List};
+ghost use Rattle.std.specs.Prelude.{◌≡◌, ◌<◌, ◌^◌, ℕ, ℤ, List};
+ghost use Rattle.std.specs.List.{AllByRecursion};
 ghost use Rattle.jo_text.specs.Descriptors.{SpellsField, SpellsMethod};
+ghost use Rattle.jo_text.specs.Escapes.{escaped};
+ghost use Rattle.jo_text.specs.Numbers.{IsNumber};
 ghost use Rattle.jo_text.specs.declared.descriptors.FieldDesc.{FieldDesc};
 ghost use Rattle.jo_text.specs.declared.descriptors.MethodDesc.{MethodDesc};
 
@@ -12,4 +15,14 @@ pub fn one_field_desc()
 /// Bytes are those of at most one method descriptor.
 pub fn one_method_desc()
     ensures { (bytes : List ℕ) (one other : MethodDesc) → SpellsMethod one bytes → SpellsMethod other bytes → one ≡ other }
+{}
+
+/// A text is the spelling of at most one name.
+pub fn one_name()
+    ensures { (one other : List ℕ) → AllByRecursion (λ byte. byte < 2 ^ 8) one → AllByRecursion (λ byte. byte < 2 ^ 8) other → escaped one ≡ escaped other → one ≡ other }
+{}
+
+/// A text is the spelling of at most one number.
+pub fn one_number()
+    ensures { (text : List ℕ) (one other : ℤ) → IsNumber text one → IsNumber text other → one ≡ other }
 {}

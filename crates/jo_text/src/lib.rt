@@ -16,7 +16,7 @@ pub use descriptors::{
     Base, FieldDesc, MethodDesc, Params, is_class_name, is_class_or_array, is_field_desc,
     is_member_name, is_method_desc, read_field_desc, read_method_desc,
 };
-pub use escapes::{escape, unescape};
+pub use escapes::{escape, push_escaped, unescape};
 pub use lines::{ListFault, split_lines};
 pub use mutf8::check_mutf8;
 pub use numbers::read_number;

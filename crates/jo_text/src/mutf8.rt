@@ -1,7 +1,54 @@
 //! Modified UTF-8 (JVM Specification SE 8, 4.4.7).
-ghost use Rattle.std.specs.Prelude.{◌<◌, ◌^◌, length, MatchOption};
+ghost use Rattle.std.specs.Prelude.{◌≡◌, ◌<◌, ◌^◌, ℕ, List, [], length, MatchOption};
 ghost use Rattle.jo_text.specs.Texts.{StopsAt};
 ghost use Rattle.jo_text.specs.Mutf8.{IsMutf8};
+ghost use Rattle.jo_text.specs.CharScan.{continued, mutf8_lead, Awaits, GoesOn};
+
+/// What bytes ask for to be a text: so many bytes more, of which the first lies from `least` to `most` and each other
+/// one is a continuation byte.
+#[derive(Clone, Copy)]
+struct Awaited {
+    count: u8,
+    least: u8,
+    most: u8,
+}
+
+fn continued(count: u8) -> Awaited
+    ensures { result ≡ continued count }
+{
+    Awaited {
+        count,
+        least: 0x80,
+        most: 0xBF,
+    }
+}
+
+/// What the first byte of a character asks for. `None` says that no character begins with the byte.
+fn after_lead(lead: u8) -> Option<Awaited>
+    ensures { result ≡ mutf8_lead lead }
+{
+    match lead {
+        0x01..=0x7F => Some(continued(0)),
+        0xC0 => Some(Awaited { count: 1, least: 0x80, most: 0x80 }),
+        0xC2..=0xDF => Some(continued(1)),
+        0xE0 => Some(Awaited { count: 2, least: 0xA0, most: 0xBF }),
+        0xE1..=0xEF => Some(continued(2)),
+        _ => None,
+    }
+}
+
+/// What is asked for behind one byte more. `None` says that no text goes on with the byte.
+fn after_byte(awaited: Awaited, byte: u8) -> Option<Awaited>
+    ensures { (front : List ℕ) → Awaits IsMutf8 front awaited → GoesOn IsMutf8 front byte result }
+{
+    if awaited.count == 0 {
+        after_lead(byte)
+    } else if awaited.least <= byte && byte <= awaited.most {
+        Some(continued(awaited.count - 1))
+    } else {
+        None
+    }
+}
 
 /// The place of the first byte that no modified UTF-8 continues, or the length where the bytes only stop too early.
 /// `None` says that they are modified UTF-8.
@@ -9,5 +56,16 @@ pub fn check_mutf8(bytes: &[u8]) -> Option<u32>
     requires { length bytes.now < 2 ^ 31 }
     ensures { MatchOption result (IsMutf8 bytes.now) (λ place. StopsAt IsMutf8 bytes.now place) }
 {
-    None
+    let mut awaited = continued(0);
+    for (place, byte) in bytes.iter().enumerate() {
+        match after_byte(awaited, *byte) {
+            Some(next) => awaited = next,
+            None => return Some(place as u32),
+        }
+    }
+    if awaited.count == 0 {
+        None
+    } else {
+        Some(bytes.len() as u32)
+    }
 }

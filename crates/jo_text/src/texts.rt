@@ -45,10 +45,37 @@ impl Name {
     }
 }
 
+impl From<Vec<u8>> for Name {
+    ghost from_gives = { λ bytes name. name ≡ bytes.items };
+
+    fn from(bytes: Vec<u8>) -> Name {
+        Name { bytes }
+    }
+}
+
 /// Why a text wasn't read.
-#[derive(Drop)]
+#[derive(Debug, Drop)]
 pub enum DescFault {
     /// It isn't in the grammar.
     Bad,
     Memory,
+}
+
+#[cfg(test)]
+mod tests {
+    use super::*;
+    use std::test::Fail;
+
+    #[test]
+    fn a_name_grows_at_its_end(rt: HostRuntime) -> Result<(), Fail> {
+        let mut name = Name::new(rt.alloc());
+        assert!(rt; name.as_slice().is_empty());
+        name.append(b"java/")?;
+        name.append(b"")?;
+        name.append(b"lang")?;
+        assert_eq!(rt; name.as_slice(), b"java/lang".as_slice());
+        let same = Name::from(b"java/lang".to_vec(rt.alloc())?);
+        assert_eq!(rt; same.as_slice(), name.as_slice());
+        Ok(())
+    }
 }
