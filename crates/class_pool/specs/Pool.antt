@@ -116,20 +116,22 @@ read_entry size rest = do
   tag ← number size 1 rest
   read_tagged size (place_of size rest) tag.0 tag.1
 
--- So many indices of entries. A Long or Double without room for its second index is at fault.
-unfoldable pub read_entries : ℕ → ℕ → List ℕ → Result (List PoolEntry × List ℕ) ClassFault
-read_entries size zero rest = Ok ([], rest)
-read_entries size (suc zero) rest = do
+-- a Long or Double at this place is owed a second index
+abbrev pub owed_by : PoolEntry → ℕ → Option ℕ
+owed_by entry place = if is_double entry then Some place else None
+
+-- The entries of so many indices. Where an entry before them is owed one, its place is given; it is at fault where there is
+-- none left.
+unfoldable pub read_entries : ℕ → Option ℕ → ℕ → List ℕ → Result (List PoolEntry × List ℕ) ClassFault
+read_entries size None zero rest = Ok ([], rest)
+read_entries size (Some place) zero rest = Err (fault PoolIndex place)
+read_entries size (Some place) (suc n) rest = do
+  others ← read_entries size None n rest
+  Ok (Second ∷ others.0, others.1)
+read_entries size None (suc n) rest = do
   entry ← read_entry size rest
-  passing (not (is_double entry.0)) PoolIndex (place_of size rest) (Ok (entry.0 ∷ [], entry.1))
-read_entries size (suc (suc n)) rest = do
-  entry ← read_entry size rest
-  behind_entry size entry.0 (if is_double entry.0 then read_entries size n entry.1 else read_entries size (suc n) entry.1)
-  where
-    behind_entry : ℕ → PoolEntry → Result (List PoolEntry × List ℕ) ClassFault → Result (List PoolEntry × List ℕ) ClassFault
-    behind_entry size entry others = do
-      o ← others
-      Ok (if is_double entry then entry ∷ Second ∷ o.0 else entry ∷ o.0, o.1)
+  others ← read_entries size (owed_by entry.0 (place_of size rest)) n entry.1
+  Ok (entry.0 ∷ others.0, others.1)
 
 -- how many bytes spell an entry, its tag included
 abbrev pub entry_size : PoolEntry → ℕ
@@ -190,7 +192,7 @@ unless_fault (Some f) next = Err f
 unfoldable pub read_pool_from : ℕ → List ℕ → Result (List PoolEntry × List ℕ) ClassFault
 read_pool_from size rest = do
   count ← number size 2 rest
-  entries ← passing (not (count.0 == 0)) PoolIndex (place_of size rest) (read_entries size (count.0 - 1) count.1)
+  entries ← passing (not (count.0 == 0)) PoolIndex (place_of size rest) (read_entries size None (count.0 - 1) count.1)
   unless_fault (reference_fault size entries.0 count.1 entries.0) (Ok entries)
 
 -- the pool of a file, which begins at byte 8, and what follows it

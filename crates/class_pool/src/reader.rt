@@ -1,6 +1,7 @@
 //! Reads the constant pool.
-ghost use Rattle.std.specs.Prelude.{◌≡◌};
-ghost use Rattle.class_pool.specs.Pool.{read_utf8, read_indices, read_tagged, read_handle, read_entry, read_entries, read_pool_from as pool_from, is_double};
+ghost use Rattle.std.specs.Prelude.{◌≡◌, None};
+ghost use Rattle.jo_text.specs.Tests.{is_mutf8 as passes_mutf8};
+ghost use Rattle.class_pool.specs.Pool.{read_utf8, read_indices, read_tagged, read_handle, read_entry, read_entries, owed_by, read_pool_from as pool_from};
 ghost use Rattle.class_pool.specs.Outcomes.{Gives};
 
 use crate::entries::{Pool, PoolEntry};
@@ -11,8 +12,15 @@ use crate::items::{
 };
 use crate::references::reference_fault;
 use jo_ids::List;
-use jo_text::{Name, is_mutf8};
+use jo_text::Name;
 use std::alloc::Global;
+
+/// Whether the text is modified UTF-8.
+fn is_mutf8(text: &[u8]) -> bool
+    ensures { result ≡ passes_mutf8 text.now }
+{
+    false
+}
 
 #[tactic(auto, unfolding(crate::specs::Pool::read_utf8))]
 fn utf8_entry(
@@ -125,36 +133,38 @@ fn entry(alloc: Global, size: u32, rest: &[u8]) -> Result<(PoolEntry, &[u8]), St
     tagged_entry(alloc, size, place_of(size, rest), tag, behind)
 }
 
-/// Whether the entry takes two indices.
-fn is_double(entry: &PoolEntry) -> bool
-    ensures { result ≡ is_double entry.now }
+/// The place of an entry that is owed a second index.
+fn owed_by(entry: &PoolEntry, place: u32) -> Option<u32>
+    ensures { result ≡ owed_by entry.now place }
 {
-    matches!(entry, PoolEntry::Long(_) | PoolEntry::Double(_))
+    match entry {
+        PoolEntry::Long(_) | PoolEntry::Double(_) => Some(place),
+        _ => None,
+    }
 }
 
 /// The entries of so many indices, and what follows.
 fn entries(alloc: Global, size: u32, count: u16, rest: &[u8]) -> Result<(Pool, &[u8]), Stop>
-    ensures { Gives (λ x. (x.0, x.1.now)) result (read_entries size count rest.now) }
+    ensures { Gives (λ x. (x.0, x.1.now)) result (read_entries size None count rest.now) }
 {
     let mut entries = List::new(alloc);
-    let mut left = count;
+    let mut owed = None;
     let mut rest = rest;
-    while left > 0 {
-        let (found, behind) = entry(alloc, size, rest)?;
-        left -= 1;
-        if is_double(&found) {
-            if left == 0 {
-                return Err(fault_at(ClassCode::PoolIndex, place_of(size, rest)));
-            }
-            left -= 1;
-            entries.push(found)?;
+    for _ in 0..count {
+        if owed.is_some() {
             entries.push(PoolEntry::Second)?;
+            owed = None;
         } else {
+            let (found, behind) = entry(alloc, size, rest)?;
+            owed = owed_by(&found, place_of(size, rest));
             entries.push(found)?;
+            rest = behind;
         }
-        rest = behind;
     }
-    Ok((entries, rest))
+    match owed {
+        Some(place) => Err(fault_at(ClassCode::PoolIndex, place)),
+        None => Ok((entries, rest)),
+    }
 }
 
 /// The pool that begins the rest, with its count, and what follows. `size` is the length of the whole file.
