@@ -1,6 +1,7 @@
 //! The table of opcodes (JVM Specification SE 8, 6.5).
-ghost use Rattle.std.specs.Prelude.{◌≡◌, ◌<◌, option_map};
+ghost use Rattle.std.specs.Prelude.{◌≡◌, map, option_map};
 ghost use Rattle.jo_insn.specs.Opcodes;
+ghost use Rattle.jo_insn.specs.Rows.{seen};
 
 /// How the operands of an opcode are spelled.
 #[derive(Clone, Copy)]
@@ -151,26 +152,50 @@ static OPCODES: [Opcode; 107] = [
     Opcode { code: 200, name: "goto_w", operands: Operands::OffsetInt },
 ];
 
+/// The rows of the table.
+#[tactic(auto, unfolding(crate::specs::Opcodes::opcodes))]
+fn rows() -> &'static [Opcode]
+    ensures { map seen result.now ≡ Opcodes.opcodes }
+{
+    &OPCODES
+}
+
+/// The row of an opcode.
+#[tactic(auto, unfolding(crate::specs::Opcodes::row_of))]
+fn row_of(op: u8) -> Option<&'static Opcode>
+    ensures { option_map (λ row. seen row.now) result ≡ Opcodes.row_of op }
+{
+    for row in rows() {
+        if row.code == op {
+            return Some(row);
+        }
+    }
+    None
+}
+
 /// How the operands of an opcode are spelled. `None` for one outside the profile.
 pub fn operands_of(op: u8) -> Option<Operands>
     ensures { result ≡ Opcodes.operands_of op }
 {
-    let row = OPCODES.iter().find(|row| row.code == op)?;
-    Some(row.operands)
+    Some(row_of(op)?.operands)
 }
 
 /// The opcode's name. `None` for one outside the profile.
 pub fn name_of(op: u8) -> Option<&'static str>
     ensures { option_map (λ n. n.now) result ≡ Opcodes.name_of op }
 {
-    let row = OPCODES.iter().find(|row| row.code == op)?;
-    Some(row.name)
+    Some(row_of(op)?.name)
 }
 
 /// The opcode with that name.
+#[tactic(auto, unfolding(crate::specs::Opcodes::opcode_named))]
 pub fn opcode_named(name: &[u8]) -> Option<u8>
     ensures { result ≡ Opcodes.opcode_named name.now }
 {
-    let row = OPCODES.iter().find(|row| row.name.as_bytes() == name)?;
-    Some(row.code)
+    for row in rows() {
+        if row.name.as_bytes() == name {
+            return Some(row.code);
+        }
+    }
+    None
 }
