@@ -42,6 +42,7 @@ struct Opcode {
     operands: Operands,
 }
 
+#[rattlefmt::skip]
 static OPCODES: [Opcode; 107] = [
     Opcode { code: 0, name: "nop", operands: Operands::NoOperand },
     Opcode { code: 1, name: "aconst_null", operands: Operands::NoOperand },
@@ -152,7 +153,7 @@ static OPCODES: [Opcode; 107] = [
     Opcode { code: 200, name: "goto_w", operands: Operands::OffsetInt },
 ];
 
-/// The rows of the table.
+/// The rows of the table, which callers know by the contract alone, so that no look-up is proved row by row.
 #[tactic(auto, unfolding(crate::specs::Opcodes::opcodes))]
 fn rows() -> &'static [Opcode]
     ensures { map seen result.now ≡ Opcodes.opcodes }
@@ -198,4 +199,49 @@ pub fn opcode_named(name: &[u8]) -> Option<u8>
         }
     }
     None
+}
+
+#[cfg(test)]
+mod tests {
+    use super::*;
+    use std::test::Fail;
+
+    /// Whether the opcode has this name, and the name this opcode.
+    fn is_named(op: u8, name: &str) -> bool {
+        name_of(op) == Some(name) && opcode_named(name.as_bytes()) == Some(op)
+    }
+
+    #[test]
+    fn names_lead_there_and_back(rt: HostRuntime) -> Result<(), Fail> {
+        let named = [
+            (0, "nop"),
+            (2, "iconst_m1"),
+            (25, "aload"),
+            (87, "pop"),
+            (124, "iushr"),
+            (153, "ifeq"),
+            (166, "if_acmpne"),
+            (177, "return"),
+            (187, "new"),
+            (192, "checkcast"),
+            (200, "goto_w"),
+        ];
+        for (op, name) in named {
+            assert!(rt; is_named(op, name), "{name}");
+        }
+        Ok(())
+    }
+
+    #[test]
+    fn other_opcodes_have_no_name(rt: HostRuntime) -> Result<(), Fail> {
+        for op in [9, 20, 97, 186, 197, 201, 202, 255] {
+            assert!(rt; name_of(op).is_none() && operands_of(op).is_none(), "{op}");
+        }
+        assert!(rt; opcode_named(b"").is_none());
+        assert!(rt; opcode_named(b"lconst_0").is_none());
+        assert!(rt; opcode_named(b"NOP").is_none());
+        assert!(rt; opcode_named(b"nop ").is_none());
+        assert!(rt; opcode_named(b"aload_").is_none());
+        Ok(())
+    }
 }

@@ -1,4 +1,4 @@
-use Rattle.std.proofs.Common.{◌≡◌, ◌==◌, ◌+◌, drop, map, option_map}
+use Rattle.std.proofs.Common.{◌≡◌, drop, map, option_map}
 use Rattle.std.specs.Str.{bytes_eq}
 use Rattle.jo_insn.specs.Opcodes
 use Rattle.jo_insn.specs.Rows.{seen}

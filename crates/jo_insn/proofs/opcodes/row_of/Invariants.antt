@@ -1,4 +1,4 @@
-use Rattle.std.proofs.Common.{◌≡◌, ◌==◌, ◌+◌, drop, map}
+use Rattle.std.proofs.Common.{◌≡◌, ◌==◌, drop, map}
 use Rattle.jo_insn.specs.Opcodes
 use Rattle.jo_insn.specs.Rows.{seen}
 use Rattle.jo_insn.proofs.opcodes.row_of.Given as goal
