@@ -53,6 +53,7 @@ module _ (b : ℕ) (rest : List ℕ) where
     where
       at : (spelled : List ℕ) → mutf8_of c ≡ spelled → b ∷ rest ≡ spelled ++ more
       at spelled e = is ∙ ap (λ (s : List ℕ). s ++ more) e
+
       by : (0 < c) ⊎ (c ≤ 0) → (c < 0x80) ⊎ (0x80 ≤ c) → (c < 0x800) ⊎ (0x800 ≤ c) → Follows IsMutf8 (mutf8_lead b) rest
       by (inr none) _ _ =
           let e = at (0xC0 ∷ 0x80 ∷ []) (spells_zero c (omega arith)) in

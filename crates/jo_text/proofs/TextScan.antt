@@ -41,6 +41,7 @@ module _ (IsText : List ℕ → Type 0) where
         same : (rest : List ℕ) → IsText ((front ++ byte ∷ []) ++ rest) ↔ IsText (byte ∷ rest)
         same rest = let P : ℕ → Type 0 = λ k. Completes IsText k a.least a.most (byte ∷ rest) in
             (λ t. subst P none ((further rest).0 t), λ t. (further rest).1 (subst P (sym none) t))
+
         by : (o : Option Awaited) → GoesOn IsText [] byte o → GoesOn IsText front byte o
         by None g = λ t. g (t.0, (same t.0).0 t.1)
         by (Some b) g = record { some = g.some; exact = λ rest. (λ t. (g.exact rest).0 ((same rest).0 t), λ t. (same rest).1 ((g.exact rest).1 t)) }
@@ -110,9 +111,9 @@ module _ (IsText : List ℕ → Type 0) where
     some = h.0;
     exact = λ rest. (
       λ t.
-      let f = follows rest t in
-      let P : Awaited → Type 0 = λ x. Completes IsText x.count x.least x.most rest in
-      subst P (sym (same_Some a f.0 f.1)) f.2,
+          let f = follows rest t in
+          let P : Awaited → Type 0 = λ x. Completes IsText x.count x.least x.most rest in
+          subst P (sym (same_Some a f.0 f.1)) f.2,
       h.1 rest,
     );
   }
