@@ -4,8 +4,7 @@ ghost use Rattle.jo_text.specs.Texts.{StopsAt};
 ghost use Rattle.jo_text.specs.Mutf8.{IsMutf8};
 ghost use Rattle.jo_text.specs.CharScan.{continued, mutf8_lead, Awaits, GoesOn};
 
-/// What bytes ask for to be a text: so many bytes more, of which the first lies from `least` to `most` and each other
-/// one is a continuation byte.
+/// The bytes that a character still lacks: how many, and the range of the first. Each other one is a continuation byte.
 #[derive(Clone, Copy)]
 struct Awaited {
     count: u8,
@@ -13,6 +12,7 @@ struct Awaited {
     most: u8,
 }
 
+/// So many continuation bytes.
 fn continued(count: u8) -> Awaited
     ensures { result ≡ continued count }
 {
@@ -23,7 +23,7 @@ fn continued(count: u8) -> Awaited
     }
 }
 
-/// What the first byte of a character asks for. `None` says that no character begins with the byte.
+/// What a character lacks behind its first byte. `None` says that no character begins with the byte.
 fn after_lead(lead: u8) -> Option<Awaited>
     ensures { result ≡ mutf8_lead lead }
 {
@@ -45,7 +45,7 @@ fn after_lead(lead: u8) -> Option<Awaited>
     }
 }
 
-/// What is asked for behind one byte more. `None` says that no text goes on with the byte.
+/// What is lacking behind one byte more. `None` says that no text goes on with the byte.
 fn after_byte(awaited: Awaited, byte: u8) -> Option<Awaited>
     ensures { (front : List ℕ) → Awaits IsMutf8 front awaited → GoesOn IsMutf8 front byte result }
 {
