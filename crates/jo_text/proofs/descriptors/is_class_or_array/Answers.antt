@@ -1,5 +1,5 @@
 use Rattle.std.proofs.Common.{Some, None}
-use Rattle.jo_text.proofs.DescriptorMethods.{or_array}
+use Rattle.jo_text.proofs.DescriptorFields.{or_array}
 use Rattle.jo_text.proofs.descriptors.is_class_or_array.Goals as goal
 
 pub returns-in-Some : goal.returns-in-Some
