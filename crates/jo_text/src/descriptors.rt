@@ -4,6 +4,7 @@ ghost use Rattle.std.specs.Option.{option_copied};
 ghost use Rattle.std.specs.List.{list_any, prefix_len};
 ghost use Rattle.jo_text.specs.Descriptors.{is_one_of, IsClassName, IsMemberName, IsFieldDesc, IsMethodDesc, IsClassOrArray, SpellsField, SpellsMethod};
 ghost use Rattle.jo_text.specs.Scan.{after_byte, breaks_name, names_on, base_seen, field_seen, read_class, letter_base, read_base, read_field, PassFields, BeginsFields, SpellsResult, IsResultDesc};
+ghost use Rattle.jo_text.specs.Tests.{is_class_name, is_member_name, is_field_desc, is_method_desc, is_class_or_array};
 ghost use Rattle.jo_text.specs.declared.texts.DescFault.TheVariants.{Bad};
 
 use crate::texts::{DescFault, Memory, Name};
@@ -286,28 +287,32 @@ fn read_result(alloc: Global, bytes: &[u8]) -> Result<Option<FieldDesc>, DescFau
 
 /// Whether the bytes are the internal form of a class's name.
 pub fn is_class_name(bytes: &[u8]) -> bool
-    ensures { IsTrue result ↔ IsClassName bytes.now }
+    ensures grammar { IsTrue result ↔ IsClassName bytes.now }
+    ensures test { result ≡ is_class_name bytes.now }
 {
     joins_names(bytes)
 }
 
 /// Whether the bytes are the name of a field or method.
 pub fn is_member_name(bytes: &[u8]) -> bool
-    ensures { IsTrue result ↔ IsMemberName bytes.now }
+    ensures grammar { IsTrue result ↔ IsMemberName bytes.now }
+    ensures test { result ≡ is_member_name bytes.now }
 {
     !bytes.is_empty() && !has_one_of(b".;[/(:", bytes)
 }
 
 /// Whether the bytes are a field descriptor.
 pub fn is_field_desc(bytes: &[u8]) -> bool
-    ensures { IsTrue result ↔ IsFieldDesc bytes.now }
+    ensures grammar { IsTrue result ↔ IsFieldDesc bytes.now }
+    ensures test { result ≡ is_field_desc bytes.now }
 {
     whole_field(bytes).is_some()
 }
 
 /// Whether the bytes are a method descriptor.
 pub fn is_method_desc(bytes: &[u8]) -> bool
-    ensures { IsTrue result ↔ IsMethodDesc bytes.now }
+    ensures grammar { IsTrue result ↔ IsMethodDesc bytes.now }
+    ensures test { result ≡ is_method_desc bytes.now }
 {
     let Some(params) = after_byte(b'(', bytes) else {
         return false;
@@ -320,7 +325,8 @@ pub fn is_method_desc(bytes: &[u8]) -> bool
 
 /// Whether the bytes are what a Class entry may name: a class, or an array's descriptor.
 pub fn is_class_or_array(bytes: &[u8]) -> bool
-    ensures { IsTrue result ↔ IsClassOrArray bytes.now }
+    ensures grammar { IsTrue result ↔ IsClassOrArray bytes.now }
+    ensures test { result ≡ is_class_or_array bytes.now }
 {
     match after_byte(b'[', bytes) {
         Some(_) => is_field_desc(bytes),

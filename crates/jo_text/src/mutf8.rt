@@ -1,8 +1,9 @@
 //! Modified UTF-8 (JVM Specification SE 8, 4.4.7).
-ghost use Rattle.std.specs.Prelude.{◌≡◌, ◌<◌, ◌^◌, ℕ, List, [], length, MatchOption};
+ghost use Rattle.std.specs.Prelude.{◌≡◌, ◌<◌, ◌^◌, ◌↔◌, ℕ, List, [], length, MatchOption, IsTrue};
 ghost use Rattle.jo_text.specs.Texts.{StopsAt};
 ghost use Rattle.jo_text.specs.Mutf8.{IsMutf8};
 ghost use Rattle.jo_text.specs.CharScan.{continued, mutf8_lead, Awaits, GoesOn};
+ghost use Rattle.jo_text.specs.Tests.{is_mutf8};
 
 /// The bytes that a character still lacks: how many, and the range of the first. Each other one is a continuation byte.
 #[derive(Clone, Copy)]
@@ -58,24 +59,40 @@ fn after_byte(awaited: Awaited, byte: u8) -> Option<Awaited>
     }
 }
 
-/// The place of the first byte that no modified UTF-8 continues, or the length where the bytes only stop too early.
-/// `None` says that they are modified UTF-8.
-pub fn check_mutf8(bytes: &[u8]) -> Option<u32>
-    requires { length bytes.now < 2 ^ 31 }
+/// Where the bytes stop being modified UTF-8, as `check_mutf8` says.
+fn stop_of(bytes: &[u8]) -> Option<usize>
     ensures { MatchOption result (IsMutf8 bytes.now) (λ place. StopsAt IsMutf8 bytes.now place) }
 {
     let mut awaited = continued(0);
     for (place, byte) in bytes.iter().enumerate() {
         match after_byte(awaited, *byte) {
             Some(next) => awaited = next,
-            None => return Some(place as u32),
+            None => return Some(place),
         }
     }
     if awaited.count == 0 {
         None
     } else {
-        Some(bytes.len() as u32)
+        Some(bytes.len())
     }
+}
+
+/// The place of the first byte that no modified UTF-8 continues, or the length where the bytes only stop too early.
+/// `None` says that they are modified UTF-8.
+pub fn check_mutf8(bytes: &[u8]) -> Option<u32>
+    requires { length bytes.now < 2 ^ 31 }
+    ensures { MatchOption result (IsMutf8 bytes.now) (λ place. StopsAt IsMutf8 bytes.now place) }
+{
+    let place = stop_of(bytes)?;
+    Some(place as u32)
+}
+
+/// Whether the bytes are modified UTF-8.
+pub fn is_mutf8(bytes: &[u8]) -> bool
+    ensures grammar { IsTrue result ↔ IsMutf8 bytes.now }
+    ensures test { result ≡ is_mutf8 bytes.now }
+{
+    stop_of(bytes).is_none()
 }
 
 #[cfg(test)]
