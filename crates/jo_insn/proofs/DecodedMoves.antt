@@ -1,5 +1,5 @@
 -- An instruction ends behind its pc, within the code.
-use Rattle.std.proofs.Common.{◌≡◌, ℕ, ◌+◌, ◌-◌, ◌*◌, ◌^◌, ◌<◌, ◌≤◌, Bool, true, false, cond, ltb, List, [], ◌∷◌, length, drop, refl, sym, ap, ◌∙◌, arith}
+use Rattle.std.proofs.Common.{◌≡◌, ℕ, ◌+◌, ◌-◌, ◌*◌, ◌^◌, ◌<◌, ◌≤◌, Bool, true, false, cond, List, [], ◌∷◌, length, drop, refl, sym, ap, arith}
 use Rattle.std.specs.Prelude.{ℤ, nat_lt, nat_le, int_lt, Option, Some, None, Result, Ok, Err}
 use Rattle.std.proofs.lemmas.Bool.{ltb-false}
 use Rattle.std.proofs.lemmas.List.{length-drop}
@@ -93,7 +93,7 @@ ok-if false fault r y h = absurd cc
 array_of-ends : (pc op kind next : ℕ) (insn : Insn) → array_of pc op kind ≡ Ok (insn, next) → next ≡ pc + 2
 array_of-ends pc op kind next insn h =
     elim (is_array_kind kind) as (λ b. cond b (placed (Array kind) (pc + 2)) (cond (is_wide_kind kind) (Err (Outside op)) (Err Malformed)) ≡ placed insn next → next ≡ pc + 2)
-        [ true ↦ (λ e. sym (ap next_in e)) | false ↦ (λ e. absurd (outside_or_malformed (is_wide_kind kind) op insn next e)) ] h
+    [ true ↦ (λ e. sym (ap next_in e)) | false ↦ (λ e. absurd (outside_or_malformed (is_wide_kind kind) op insn next e)) ] h
 
 with_offsets-ends : (pc size next : ℕ) (other low high : ℤ) (table : List ℕ) (insn : Insn) → size ≡ padding_at pc + 12 + length table → with_offsets pc other low high table ≡ Ok (insn, next) → Ends pc size next
 with_offsets-ends pc size next other low high table insn sized h =

@@ -3,3 +3,4 @@ pub mod EncodedSwitch
 pub mod Numbers
 pub mod SpelledIsDecoded
 pub mod SpelledFromDecoded
+pub mod DecoderLemmas

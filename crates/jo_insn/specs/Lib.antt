@@ -1,2 +1,4 @@
 pub mod Opcodes
 pub mod Instructions
+pub mod Rows
+pub mod Keys

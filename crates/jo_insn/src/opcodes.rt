@@ -1,6 +1,7 @@
 //! The table of opcodes (JVM Specification SE 8, 6.5).
-ghost use Rattle.std.specs.Prelude.{◌≡◌, ◌<◌, option_map};
+ghost use Rattle.std.specs.Prelude.{◌≡◌, map, option_map};
 ghost use Rattle.jo_insn.specs.Opcodes;
+ghost use Rattle.jo_insn.specs.Rows.{seen};
 
 /// How the operands of an opcode are spelled.
 #[derive(Clone, Copy)]
@@ -41,6 +42,7 @@ struct Opcode {
     operands: Operands,
 }
 
+#[rattlefmt::skip]
 static OPCODES: [Opcode; 107] = [
     Opcode { code: 0, name: "nop", operands: Operands::NoOperand },
     Opcode { code: 1, name: "aconst_null", operands: Operands::NoOperand },
@@ -151,26 +153,95 @@ static OPCODES: [Opcode; 107] = [
     Opcode { code: 200, name: "goto_w", operands: Operands::OffsetInt },
 ];
 
+/// The rows of the table, which callers know by the contract alone, so that no look-up is proved row by row.
+#[tactic(auto, unfolding(crate::specs::Opcodes::opcodes))]
+fn rows() -> &'static [Opcode]
+    ensures { map seen result.now ≡ Opcodes.opcodes }
+{
+    &OPCODES
+}
+
+/// The row of an opcode.
+#[tactic(auto, unfolding(crate::specs::Opcodes::row_of))]
+fn row_of(op: u8) -> Option<&'static Opcode>
+    ensures { option_map (λ row. seen row.now) result ≡ Opcodes.row_of op }
+{
+    for row in rows() {
+        if row.code == op {
+            return Some(row);
+        }
+    }
+    None
+}
+
 /// How the operands of an opcode are spelled. `None` for one outside the profile.
 pub fn operands_of(op: u8) -> Option<Operands>
     ensures { result ≡ Opcodes.operands_of op }
 {
-    let row = OPCODES.iter().find(|row| row.code == op)?;
-    Some(row.operands)
+    Some(row_of(op)?.operands)
 }
 
 /// The opcode's name. `None` for one outside the profile.
 pub fn name_of(op: u8) -> Option<&'static str>
     ensures { option_map (λ n. n.now) result ≡ Opcodes.name_of op }
 {
-    let row = OPCODES.iter().find(|row| row.code == op)?;
-    Some(row.name)
+    Some(row_of(op)?.name)
 }
 
 /// The opcode with that name.
+#[tactic(auto, unfolding(crate::specs::Opcodes::opcode_named))]
 pub fn opcode_named(name: &[u8]) -> Option<u8>
     ensures { result ≡ Opcodes.opcode_named name.now }
 {
-    let row = OPCODES.iter().find(|row| row.name.as_bytes() == name)?;
-    Some(row.code)
+    for row in rows() {
+        if row.name.as_bytes() == name {
+            return Some(row.code);
+        }
+    }
+    None
+}
+
+#[cfg(test)]
+mod tests {
+    use super::*;
+    use std::test::Fail;
+
+    /// Whether the opcode has this name, and the name this opcode.
+    fn is_named(op: u8, name: &str) -> bool {
+        name_of(op) == Some(name) && opcode_named(name.as_bytes()) == Some(op)
+    }
+
+    #[test]
+    fn names_lead_there_and_back(rt: HostRuntime) -> Result<(), Fail> {
+        let named = [
+            (0, "nop"),
+            (2, "iconst_m1"),
+            (25, "aload"),
+            (87, "pop"),
+            (124, "iushr"),
+            (153, "ifeq"),
+            (166, "if_acmpne"),
+            (177, "return"),
+            (187, "new"),
+            (192, "checkcast"),
+            (200, "goto_w"),
+        ];
+        for (op, name) in named {
+            assert!(rt; is_named(op, name), "{name}");
+        }
+        Ok(())
+    }
+
+    #[test]
+    fn other_opcodes_have_no_name(rt: HostRuntime) -> Result<(), Fail> {
+        for op in [9, 20, 97, 186, 197, 201, 202, 255] {
+            assert!(rt; name_of(op).is_none() && operands_of(op).is_none(), "{op}");
+        }
+        assert!(rt; opcode_named(b"").is_none());
+        assert!(rt; opcode_named(b"lconst_0").is_none());
+        assert!(rt; opcode_named(b"NOP").is_none());
+        assert!(rt; opcode_named(b"nop ").is_none());
+        assert!(rt; opcode_named(b"aload_").is_none());
+        Ok(())
+    }
 }

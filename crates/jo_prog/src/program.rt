@@ -120,7 +120,10 @@ pub(crate) fn operation_in(code: &Code, pc: usize) -> Option<(Operation, usize)>
     ensures short { IfSome result (λ found. found.1 < 2 ^ 16) }
 {
     let bytes = code.bytes.as_slice();
-    if bytes.len() > LONGEST_CODE || pc >= bytes.len() {
+    if bytes.len() > LONGEST_CODE {
+        return None;
+    }
+    if pc >= bytes.len() {
         return None;
     }
     match decode(bytes, pc as u32) {

@@ -1,6 +1,7 @@
--- What `Scan` reads at the front of some bytes is spelled there, and what is spelled there is read: two laws a step.
-use Rattle.std.proofs.Common.{◌≡◌, ℕ, zero, suc, ◌+◌, ◌<◌, ◌≤◌, Bool, true, false, cond, not, ◌==◌, List, [], ◌∷◌, ◌++◌, length, take, drop, refl, sym, ap, subst, ◌∙◌, append_assoc, arith}
-use Rattle.std.specs.Prelude.{Option, Some, None, IfSome, MatchOption, is_some, IsTrue, ◌↔◌, option_map, option_and_then, position, nat_lt, replicate}
+-- Two laws a step: what `Scan` reads at the front of some bytes is spelled there (`_taken`), and what is spelled there is
+-- read (`_again`).
+use Rattle.std.proofs.Common.{◌≡◌, ℕ, zero, suc, ◌+◌, ◌<◌, ◌≤◌, Bool, true, false, cond, not, ◌==◌, List, [], ◌∷◌, ◌++◌, length, take, drop, refl, sym, ap, subst, ◌∙◌, append_assoc, inl, inr, ⊎_elim, arith}
+use Rattle.std.specs.Prelude.{Option, Some, None, IfSome, MatchOption, is_some, IsTrue, ◌↔◌, option_map, option_and_then, position, nat_lt, codes, replicate}
 use Rattle.std.specs.List.{prefix_len, position_or_len}
 use Rattle.std.proofs.lemmas.Bool.{eqb-true}
 use Rattle.std.proofs.lemmas.Bool.Decides.{nat_tests}
@@ -11,9 +12,9 @@ use Rattle.std.proofs.Math.Numerals.{one-add}
 use Rattle.jo_text.specs.declared.descriptors.Base.{Base}
 use Rattle.jo_text.specs.declared.descriptors.Base.TheVariants.{Byte, Char, Double, Float, Int, Long, Short, Boolean, Class}
 use Rattle.jo_text.specs.declared.descriptors.FieldDesc.{FieldDesc}
-use Rattle.jo_text.specs.Descriptors.{IsClassName, base_text, field_text, HasName, IsType, SpellsField, IsFieldDesc}
-use Rattle.jo_text.specs.Scan.{breaks_name, names_on, read_class, letter_base, read_base, read_field}
-use Rattle.jo_text.proofs.DescriptorNames.{class_name_again, class_name_from, guard_true}
+use Rattle.jo_text.specs.Descriptors.{is_one_of, IsUnqualified, joined_by_slash, IsClassName, IsClassOrArray, base_text, field_text, HasName, IsType, SpellsField, IsFieldDesc}
+use Rattle.jo_text.specs.Scan.{after_byte, breaks_name, names_on, read_class, letter_base, read_base, read_field}
+use Rattle.jo_text.proofs.DescriptorNames.{any_false, guard_true, class_name_again, class_name_from}
 
 -- ---- a fact of what is read, if anything is
 
@@ -137,7 +138,7 @@ dims_front : (bs : List ℕ) → bs ≡ replicate (dims_of bs) 91 ++ drop (dims_
 dims_front [] = refl
 dims_front (b ∷ bs) = dims_front_by b bs (b == 91) refl (dims_front bs)
 
-pub counts_dims : (desc : FieldDesc) (rest : List ℕ) → prefix_len (λ b. b == 91) (field_text desc ++ rest) ≡ desc.dims
+counts_dims : (desc : FieldDesc) (rest : List ℕ) → prefix_len (λ b. b == 91) (field_text desc ++ rest) ≡ desc.dims
 counts_dims desc rest = ap dims_of (append_assoc (replicate desc.dims 91) (base_text desc.base) rest) ∙ dims_again desc.dims (base_text desc.base ++ rest) (no_dims desc.base rest)
 
 pub field_again : (desc : FieldDesc) (rest : List ℕ) → IsType desc → read_field (field_text desc ++ rest) ≡ Some (desc, rest)
@@ -146,19 +147,19 @@ field_again desc rest h =
     let few : nat_lt 255 desc.dims ≡ false = grind (arith, nat_tests, h.0) in
     rw (counts_dims desc rest, few, append_assoc (replicate desc.dims 91) (base_text desc.base) rest, drop_at (replicate desc.dims 91) (base_text desc.base ++ rest) desc.dims (length-replicate desc.dims 91), base_again desc.base rest h.1) refl
 
-abbrev pub BeginsField : List ℕ → FieldDesc × List ℕ → Type 0
+abbrev BeginsField : List ℕ → FieldDesc × List ℕ → Type 0
 BeginsField bs r = (bs ≡ field_text r.0 ++ r.1) × IsType r.0
 
-field_read : (bs : List ℕ) → IfSome (read_field bs) (BeginsField bs)
+field_taken_at : (bs : List ℕ) → IfSome (read_field bs) (BeginsField bs)
 unfolding read_field
-field_read bs =
+field_taken_at bs =
     let dims = dims_of bs in
     if_cond (BeginsField bs) (nat_lt 255 dims) None _ (λ _. tt)
     (λ few. if_map (BeginsField bs) _ (read_base (drop dims bs)) (BeginsBase (drop dims bs)) (base_taken (drop dims bs)) (λ r t.
     (dims_front bs ∙ ap (λ (x : List ℕ). replicate dims 91 ++ x) t.0 ∙ sym (append_assoc (replicate dims 91) (base_text r.0) r.1), (let le : dims ≤ 255 = grind (arith, nat_tests, few) in le, t.1))))
 
 pub field_taken : (bs : List ℕ) (desc : FieldDesc) (rest : List ℕ) → Some (desc, rest) ≡ read_field bs → BeginsField bs (desc, rest)
-field_taken bs desc rest h = subst (λ (o : Option (FieldDesc × List ℕ)). IfSome o (BeginsField bs)) (sym h) (field_read bs)
+field_taken bs desc rest h = subst (λ (o : Option (FieldDesc × List ℕ)). IfSome o (BeginsField bs)) (sym h) (field_taken_at bs)
 
 -- ---- bytes that are one field descriptor
 
@@ -179,8 +180,46 @@ whole_some bs desc rest e done =
 pub whole_more : (bs : List ℕ) (desc : FieldDesc) (rest : List ℕ) → Some (desc, rest) ≡ read_field bs → false ≡ (length rest == 0) → IsFieldDesc bs → ⊥
 whole_more bs desc rest e more h =
     let nothing : rest ≡ [] = ap (λ (r : FieldDesc × List ℕ). r.1) (same_Some (desc, rest) (h.0, []) (e ∙ whole_again h.0 bs h.1)) in
-    absurd (cc (more ∙ ap (λ (x : List ℕ). length x == 0) nothing))
+    absurd (cc (more, nothing))
 
 pub whole_tested : {A : Type 0} (found : Option A) (seen : A → FieldDesc) (bs : List ℕ) → MatchOption found (IsFieldDesc bs → ⊥) (λ x. SpellsField (seen x) bs) → IsTrue (is_some found) ↔ IsFieldDesc bs
 whole_tested None seen bs h = (λ e. absurd cc, λ d. absurd (h d))
 whole_tested (Some x) seen bs h = (λ e. (seen x, h), λ d. refl)
+
+-- ---- a byte at the front
+
+pub byte_taken : (byte : ℕ) (bs rest : List ℕ) → Some rest ≡ after_byte byte bs → bs ≡ byte ∷ rest
+byte_taken byte [] rest h = absurd cc
+byte_taken byte (b ∷ bs) rest h = let g = cond_some (b == byte) bs rest (sym h) in rw (eqb-true b byte g.0, g.1) refl
+
+pub byte_again : (byte : ℕ) (rest : List ℕ) → Some rest ≡ after_byte byte (byte ∷ rest)
+byte_again byte rest = let same : (byte == byte) ≡ true = grind (arith, nat_tests) in rw same refl
+
+-- ---- a class's name, or an array's descriptor
+
+bad_byte : (b : ℕ) → b ≡ 91 → is_one_of (codes ".;[/") b ≡ false → ⊥
+bad_byte b same h = grind (arith, nat_tests)
+
+class_begins : (first : List ℕ) (names : List (List ℕ)) (rest : List ℕ) → 91 ∷ rest ≡ joined_by_slash first names → IsUnqualified first → ⊥
+class_begins [] names rest e h = omega (arith, h.0)
+class_begins (b ∷ first) [] rest e h = let same : b ≡ 91 = cc in absurd (bad_byte b same (any_false _ _ h.1).0)
+class_begins (b ∷ first) (n ∷ names) rest e h = let same : b ≡ 91 = cc in absurd (bad_byte b same (any_false _ _ h.1).0)
+
+array_begins : (dims : ℕ) (text : List ℕ) → 0 < dims → (rest : List ℕ) × (replicate dims 91 ++ text ≡ 91 ∷ rest)
+array_begins zero text lt = absurd (omega arith)
+array_begins (suc n) text lt = (replicate n 91 ++ text, refl)
+
+array_dims : (desc : FieldDesc) (rest : List ℕ) → 91 ∷ rest ≡ field_text desc → 0 < desc.dims
+array_dims desc rest e = let at = ap (prefix_len (λ b. b == 91)) (e ∙ sym (append-nil (field_text desc))) ∙ counts_dims desc [] in omega arith
+
+pub or_array : (bytes : List ℕ) (found : Option (List ℕ)) (answer : Bool) → found ≡ after_byte 91 bytes
+    → MatchOption found (IsTrue answer ↔ IsClassName bytes) (λ _. IsTrue answer ↔ IsFieldDesc bytes) → IsTrue answer ↔ IsClassOrArray bytes
+or_array bytes None answer e h = (
+  λ yes. inl (h.0 yes),
+  λ c. ⊎_elim (λ n. h.1 n) (λ d. let a = array_begins d.0.dims (base_text d.0.base) d.1 in absurd (cc (e, byte_again 91 a.0, d.2.0, a.1))) c,
+)
+or_array bytes (Some rest) answer e h =
+    let is = byte_taken 91 bytes rest e in (
+      λ yes. let d = h.0 yes in inr (d.0, array_dims d.0 rest (sym is ∙ d.1.0), d.1),
+      λ c. ⊎_elim (λ n. absurd (class_begins n.0 n.1 rest (sym is ∙ n.2) n.3)) (λ d. h.1 (d.0, d.2)) c,
+    )

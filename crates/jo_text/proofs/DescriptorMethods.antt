@@ -1,22 +1,19 @@
 -- Field descriptors one behind the other, and what a method's descriptor has round them.
-use Rattle.std.proofs.Common.{◌≡◌, ℕ, zero, suc, ◌+◌, ◌<◌, ◌==◌, ◌||◌, Bool, true, false, List, [], ◌∷◌, ◌++◌, length, refl, sym, ap, ◌∙◌, append_assoc, inl, inr, ⊎_elim, arith}
+use Rattle.std.proofs.Common.{◌≡◌, ℕ, ◌<◌, Bool, false, List, [], ◌∷◌, ◌++◌, length, refl, sym, ap, ◌∙◌, append_assoc, arith}
 use Rattle.std.specs.Prelude.{Option, Some, None, IfSome, MatchOption, IsTrue, ◌↔◌, codes, replicate, option_map}
-use Rattle.std.specs.List.{prefix_len, flat_map, AllByRecursion}
-use Rattle.std.proofs.lemmas.Bool.{eqb-true}
-use Rattle.std.proofs.lemmas.Bool.Decides.{nat_tests}
-use Rattle.std.proofs.lemmas.List.{length-append, append-nil}
-use Rattle.std.proofs.lemmas.Option.{cond_some, same_Some}
+use Rattle.std.specs.List.{flat_map, AllByRecursion}
+use Rattle.std.proofs.lemmas.List.{length-append}
+use Rattle.std.proofs.lemmas.Option.{same_Some}
 use Rattle.std.proofs.lemmas.Grind.{flat_map-append}
 use Rattle.jo_text.specs.declared.descriptors.Base.{Base}
 use Rattle.jo_text.specs.declared.descriptors.Base.TheVariants.{Byte, Char, Double, Float, Int, Long, Short, Boolean, Class}
 use Rattle.jo_text.specs.declared.descriptors.FieldDesc.{FieldDesc}
 use Rattle.jo_text.specs.declared.descriptors.MethodDesc.{MethodDesc}
-use Rattle.jo_text.specs.Descriptors.{base_text, field_text, result_text, method_text, IsType, IsResult, is_one_of, joined_by_slash, IsUnqualified, IsClassName, IsClassOrArray, SpellsMethod, IsMethodDesc, IsFieldDesc}
+use Rattle.jo_text.specs.Descriptors.{base_text, field_text, result_text, IsType, SpellsMethod, IsFieldDesc, IsMethodDesc}
 use Rattle.jo_text.specs.Scan.{after_byte, letter_base, read_base, read_field, PassFields, BeginsFields, SpellsResult, IsResultDesc}
-use Rattle.jo_text.proofs.DescriptorNames.{any_false}
-use Rattle.jo_text.proofs.DescriptorFields.{counts_dims, field_taken, field_again, whole_once, whole_none}
+use Rattle.jo_text.proofs.DescriptorFields.{field_taken, field_again, whole_once, whole_none, byte_taken, byte_again}
 
--- ---- the loops
+-- ---- the steps of the two loops
 
 all_more : (descs : List FieldDesc) (desc : FieldDesc) → AllByRecursion IsType descs → IsType desc → AllByRecursion IsType (descs ++ desc ∷ [])
 all_more [] desc all h = (h, tt)
@@ -59,21 +56,18 @@ rest_shorter rest after e = let d = one_is_read (read_field rest) after e in fie
 
 -- ---- as many field descriptors as there are are the same ones each time
 
-nothing_read : (desc : FieldDesc) (descs : List FieldDesc) (rest : List ℕ) → IsType desc → read_field (flat_map field_text (desc ∷ descs) ++ rest) ≡ None → ⊥
-nothing_read desc descs rest h e =
-    absurd (cc (e, ap read_field (append_assoc (field_text desc) (flat_map field_text descs) rest), field_again desc (flat_map field_text descs ++ rest) h))
+first_again : (desc : FieldDesc) (descs : List FieldDesc) (rest : List ℕ) → IsType desc → read_field (flat_map field_text (desc ∷ descs) ++ rest) ≡ Some (desc, flat_map field_text descs ++ rest)
+first_again desc descs rest h = ap read_field (append_assoc (field_text desc) (flat_map field_text descs) rest) ∙ field_again desc (flat_map field_text descs ++ rest) h
 
 same_fields : (ones others : List FieldDesc) (rest end : List ℕ) → flat_map field_text ones ++ rest ≡ flat_map field_text others ++ end → AllByRecursion IsType ones → AllByRecursion IsType others
     → read_field rest ≡ None → read_field end ≡ None → (ones ≡ others) × (rest ≡ end)
 same_fields [] [] rest end e h k stops ends = (refl, e)
-same_fields [] (o ∷ os) rest end e h k stops ends = absurd (nothing_read o os end k.0 (ap read_field (sym e) ∙ stops))
-same_fields (o ∷ os) [] rest end e h k stops ends = absurd (nothing_read o os rest h.0 (ap read_field e ∙ ends))
+same_fields [] (o ∷ os) rest end e h k stops ends = absurd (cc (stops, first_again o os end k.0))
+same_fields (o ∷ os) [] rest end e h k stops ends = absurd (cc (ends, first_again o os rest h.0))
 same_fields (o ∷ os) (p ∷ ps) rest end e h k stops ends =
-    let again : (d : FieldDesc) (ds : List FieldDesc) (tail : List ℕ) → IsType d → read_field (flat_map field_text (d ∷ ds) ++ tail) ≡ Some (d, flat_map field_text ds ++ tail)
-            = λ d ds tail t. ap read_field (append_assoc (field_text d) (flat_map field_text ds) tail) ∙ field_again d (flat_map field_text ds ++ tail) t in
-    let same = same_Some (o, flat_map field_text os ++ rest) (p, flat_map field_text ps ++ end) (sym (again o os rest h.0) ∙ ap read_field e ∙ again p ps end k.0) in
-    let more = same_fields os ps rest end (ap (λ (r : FieldDesc × List ℕ). r.1) same) h.1 k.1 stops ends in
+    let same = same_Some (o, flat_map field_text os ++ rest) (p, flat_map field_text ps ++ end) (sym (first_again o os rest h.0) ∙ ap read_field e ∙ first_again p ps end k.0) in
     let first : o ≡ p = ap (λ (r : FieldDesc × List ℕ). r.0) same in
+    let more = same_fields os ps rest end (ap (λ (r : FieldDesc × List ℕ). r.1) same) h.1 k.1 stops ends in
     (cc (first, more.0), more.1)
 
 -- `)` begins no field descriptor, and `V` is none
@@ -91,6 +85,7 @@ result_once None (Some d) bytes h k = absurd (whole_none (codes "V") void_is_no_
 result_once (Some d) None bytes h k = absurd (whole_none (codes "V") void_is_no_field (d, (sym k.0 ∙ h.0, h.1)))
 result_once (Some d) (Some o) bytes h k = ap (λ (x : FieldDesc). Some x) (whole_once d o bytes h k)
 
+-- a result that is not `V`
 pub field_result : (bytes : List ℕ) (answer : Bool) → (bytes ≡ codes "V" → ⊥) → IsTrue answer ↔ IsFieldDesc bytes → IsTrue answer ↔ IsResultDesc bytes
 field_result bytes answer other h = (λ yes. let d = h.0 yes in (Some d.0, d.1), λ r. is_field r.0 r.1)
   where
@@ -107,67 +102,26 @@ method_once bytes one other h k =
     let make : List FieldDesc → Option FieldDesc → MethodDesc = λ params result. record { params = params; result = result } in
     ap (λ (x : List FieldDesc). make x one.result) same.0 ∙ ap (λ (x : Option FieldDesc). make other.params x) last
 
--- ---- a byte at the front
-
-byte_taken : (byte : ℕ) (bs rest : List ℕ) → Some rest ≡ after_byte byte bs → bs ≡ byte ∷ rest
-byte_taken byte [] rest h = absurd cc
-byte_taken byte (b ∷ bs) rest h = let g = cond_some (b == byte) bs rest (sym h) in rw (eqb-true b byte g.0, g.1) refl
-
-byte_again : (byte : ℕ) (rest : List ℕ) → Some rest ≡ after_byte byte (byte ∷ rest)
-byte_again byte rest = let same : (byte == byte) ≡ true = grind (arith, nat_tests) in rw same refl
-
 -- ---- the parentheses of a method descriptor
 
-pub method_inside : (bytes params rest : List ℕ) → Some params ≡ after_byte 40 bytes → BeginsFields params rest → read_field rest ≡ None → IsMethodDesc bytes → (result : List ℕ) × (Some result ≡ after_byte 41 rest) × IsResultDesc result
-method_inside bytes params rest is_open p stops d =
-    let end = 41 ∷ result_text d.0.result in
-    let same : params ≡ flat_map field_text d.0.params ++ end = cc (byte_taken 40 bytes params is_open, d.1.0) in
-    let at_end = (same_fields p.0 d.0.params rest end (sym p.1.parts ∙ same) p.1.types d.1.1 stops (close_ends (result_text d.0.result))).1 in
-    (result_text d.0.result, rw at_end (byte_again 41 (result_text d.0.result)), (d.0.result, (refl, d.1.2)))
+module _ (bytes params rest : List ℕ) (is_open : Some params ≡ after_byte 40 bytes) (passed : BeginsFields params rest) (stops : read_field rest ≡ None) where
+  inside : IsMethodDesc bytes → (result : List ℕ) × (Some result ≡ after_byte 41 rest) × IsResultDesc result
+  inside d =
+      let result = result_text d.0.result in
+      let same : params ≡ flat_map field_text d.0.params ++ 41 ∷ result = cc (byte_taken 40 bytes params is_open, d.1.0) in
+      let at_end = same_fields passed.0 d.0.params rest (41 ∷ result) (sym passed.1.parts ∙ same) passed.1.types d.1.1 stops (close_ends result) in
+      (result, rw (at_end.1) (byte_again 41 result), (d.0.result, (refl, d.1.2)))
 
-pub method_outside : (bytes params rest result : List ℕ) → Some params ≡ after_byte 40 bytes → BeginsFields params rest → Some result ≡ after_byte 41 rest → IsResultDesc result → IsMethodDesc bytes
-method_outside bytes params rest result is_open p is_closed r =
-    (record { params = p.0; result = r.0 },
-    (byte_taken 40 bytes params is_open ∙ ap (λ (x : List ℕ). 40 ∷ x) (p.1.parts ∙ ap (λ (x : List ℕ). flat_map field_text p.0 ++ x) (byte_taken 41 rest result is_closed ∙ ap (λ (x : List ℕ). 41 ∷ x) r.1.0)), p.1.types, r.1.1))
+  outside : (result : List ℕ) → Some result ≡ after_byte 41 rest → IsResultDesc result → IsMethodDesc bytes
+  outside result is_closed r =
+      let end = byte_taken 41 rest result is_closed ∙ ap (λ (x : List ℕ). 41 ∷ x) r.1.0 in
+      let whole = byte_taken 40 bytes params is_open ∙ ap (λ (x : List ℕ). 40 ∷ x) (passed.1.parts ∙ ap (λ (x : List ℕ). flat_map field_text passed.0 ++ x) end) in
+      (record { params = passed.0; result = r.0 }, (whole, passed.1.types, r.1.1))
 
-pub method_refused : (bytes params rest : List ℕ) (found : Option (List ℕ)) → Some params ≡ after_byte 40 bytes → BeginsFields params rest → read_field rest ≡ None
-    → found ≡ after_byte 41 rest → IfSome found (λ result. IsResultDesc result → ⊥) → IsMethodDesc bytes → ⊥
-method_refused bytes params rest None is_open p stops e h d = absurd (cc (e, (method_inside bytes params rest is_open p stops d).1))
-method_refused bytes params rest (Some result) is_open p stops e h d = let m = method_inside bytes params rest is_open p stops d in h (rw (same_Some result m.0 (e ∙ sym m.1)) m.2)
+  pub method_refused : (found : Option (List ℕ)) → found ≡ after_byte 41 rest → IfSome found (λ result. IsResultDesc result → ⊥) → IsMethodDesc bytes → ⊥
+  method_refused None e h d = absurd (cc (e, (inside d).1))
+  method_refused (Some result) e h d = let m = inside d in h (rw (same_Some result m.0 (e ∙ sym m.1)) m.2)
 
-pub method_tested : (bytes params rest : List ℕ) (found : Option (List ℕ)) (answer : Bool) → Some params ≡ after_byte 40 bytes → BeginsFields params rest → read_field rest ≡ None
-    → found ≡ after_byte 41 rest → MatchOption found (answer ≡ false) (λ result. IsTrue answer ↔ IsResultDesc result) → IsTrue answer ↔ IsMethodDesc bytes
-method_tested bytes params rest None answer is_open p stops e h =
-    (λ yes. absurd (cc (h, yes)), λ d. absurd (method_refused bytes params rest None is_open p stops e tt d))
-method_tested bytes params rest (Some result) answer is_open p stops e h =
-    (λ yes. method_outside bytes params rest result is_open p e (h.0 yes),
-    λ d. let m = method_inside bytes params rest is_open p stops d in h.1 (rw (same_Some result m.0 (e ∙ sym m.1)) m.2))
-
--- ---- a class's name, or an array's descriptor
-
-bad_byte : (b : ℕ) → b ≡ 91 → is_one_of (codes ".;[/") b ≡ false → ⊥
-bad_byte b same h = grind (arith, nat_tests)
-
-class_begins : (first : List ℕ) (names : List (List ℕ)) (rest : List ℕ) → 91 ∷ rest ≡ joined_by_slash first names → IsUnqualified first → ⊥
-class_begins [] names rest e h = omega (arith, h.0)
-class_begins (b ∷ first) [] rest e h = let same : b ≡ 91 = cc in absurd (bad_byte b same (any_false _ _ h.1).0)
-class_begins (b ∷ first) (n ∷ names) rest e h = let same : b ≡ 91 = cc in absurd (bad_byte b same (any_false _ _ h.1).0)
-
-array_begins : (dims : ℕ) (text : List ℕ) → 0 < dims → (rest : List ℕ) × (replicate dims 91 ++ text ≡ 91 ∷ rest)
-array_begins zero text lt = absurd (omega arith)
-array_begins (suc n) text lt = (replicate n 91 ++ text, refl)
-
-array_dims : (desc : FieldDesc) (rest : List ℕ) → 91 ∷ rest ≡ field_text desc → 0 < desc.dims
-array_dims desc rest e = let at = ap (prefix_len (λ b. b == 91)) (e ∙ sym (append-nil (field_text desc))) ∙ counts_dims desc [] in omega arith
-
-pub or_array : (bytes : List ℕ) (found : Option (List ℕ)) (answer : Bool) → found ≡ after_byte 91 bytes
-    → MatchOption found (IsTrue answer ↔ IsClassName bytes) (λ _. IsTrue answer ↔ IsFieldDesc bytes) → IsTrue answer ↔ IsClassOrArray bytes
-or_array bytes None answer e h = (
-  λ yes. inl (h.0 yes),
-  λ c. ⊎_elim (λ n. h.1 n) (λ d. let a = array_begins d.0.dims (base_text d.0.base) d.1 in absurd (cc (e, byte_again 91 a.0, d.2.0, a.1))) c,
-)
-or_array bytes (Some rest) answer e h =
-    let is = byte_taken 91 bytes rest e in (
-      λ yes. let d = h.0 yes in inr (d.0, array_dims d.0 rest (sym is ∙ d.1.0), d.1),
-      λ c. ⊎_elim (λ n. absurd (class_begins n.0 n.1 rest (sym is ∙ n.2) n.3)) (λ d. h.1 (d.0, d.2)) c,
-    )
+  pub method_tested : (found : Option (List ℕ)) (answer : Bool) → found ≡ after_byte 41 rest → MatchOption found (answer ≡ false) (λ result. IsTrue answer ↔ IsResultDesc result) → IsTrue answer ↔ IsMethodDesc bytes
+  method_tested None answer e h = (λ yes. absurd (cc (h, yes)), λ d. absurd (method_refused None e tt d))
+  method_tested (Some result) answer e h = (λ yes. outside result e (h.0 yes), λ d. let m = inside d in h.1 (rw (same_Some result m.0 (e ∙ sym m.1)) m.2))

@@ -8,3 +8,4 @@ pub mod EscapeLaws
 pub mod NumberLaws
 pub mod Utf8Leads
 pub mod Utf8Stops
+pub mod TestLaws

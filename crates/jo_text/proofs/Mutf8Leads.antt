@@ -1,13 +1,12 @@
 -- Which bytes follow the first byte of a character in modified UTF-8.
-use Rattle.std.proofs.Common.{◌≡◌, ◌⊎◌, ℕ, zero, suc, ◌+◌, ◌-◌, ◌*◌, ◌/◌, ◌%◌, ◌<◌, ◌≤◌, Bool, cond, true, false, List, [], ◌∷◌, ◌++◌, refl, sym, ap, subst, ◌∙◌, inl, inr, arith, lit≤, lit<}
+use Rattle.std.proofs.Common.{◌≡◌, ◌⊎◌, ℕ, ◌+◌, ◌-◌, ◌*◌, ◌/◌, ◌%◌, ◌<◌, ◌≤◌, List, [], ◌∷◌, ◌++◌, refl, ap, ◌∙◌, inl, inr, arith, lit≤, lit<}
 use Rattle.std.proofs.lemmas.Bool.{cases_lt}
 use Rattle.std.proofs.lemmas.Bool.Decides.{nat_tests}
-use Rattle.std.specs.Prelude.{Option, Some, None, MatchOption}
-use Rattle.std.specs.Prelude.{◌==◌}
+use Rattle.std.specs.Prelude.{Option, Some, MatchOption, ◌==◌}
 use Rattle.std.specs.Int.{is_in_range}
 use Rattle.std.specs.List.{flat_map, AllByRecursion}
 use Rattle.jo_text.proofs.TextScan.{by_test, lead_goes_on, two_bytes, three_bytes, Spells, Follows}
-use Rattle.jo_text.specs.CharScan.{continued, mutf8_lead, Completes, Awaits, GoesOn}
+use Rattle.jo_text.specs.CharScan.{continued, mutf8_lead, GoesOn}
 use Rattle.jo_text.specs.Mutf8.{mutf8_of, IsMutf8}
 use Rattle.jo_text.specs.declared.mutf8.Awaited.{Awaited}
 
@@ -53,6 +52,7 @@ module _ (b : ℕ) (rest : List ℕ) where
     where
       at : (spelled : List ℕ) → mutf8_of c ≡ spelled → b ∷ rest ≡ spelled ++ more
       at spelled e = is ∙ ap (λ (s : List ℕ). s ++ more) e
+
       by : (0 < c) ⊎ (c ≤ 0) → (c < 0x80) ⊎ (0x80 ≤ c) → (c < 0x800) ⊎ (0x800 ≤ c) → Follows IsMutf8 (mutf8_lead b) rest
       by (inr none) _ _ =
           let e = at (0xC0 ∷ 0x80 ∷ []) (spells_zero c (omega arith)) in
@@ -101,7 +101,7 @@ cons_pair b y rest low high y_low y_high h =
     let second : 0x80 + c % 64 ≡ y = omega arith in
     cons_char c (b ∷ y ∷ []) rest (omega arith) (spells_two c (omega arith) (omega arith) ∙ cc) h
 
--- the second byte is at least `least`
+-- The second byte is at least `least`, which is at least 0xA0 behind 0xE0: the two as one number.
 cons_triple : (b : ℕ) → 0xE0 ≤ b → b ≤ 0xEF → (least : ℕ) → 0x80 ≤ least → 0xE0A0 ≤ b * 256 + least
     → (y z : ℕ) (rest : List ℕ) → least ≤ y → y ≤ 0xBF → 0x80 ≤ z → z ≤ 0xBF → IsMutf8 rest → IsMutf8 (b ∷ y ∷ z ∷ rest)
 cons_triple b low high least above past y z rest y_low y_high z_low z_high h =

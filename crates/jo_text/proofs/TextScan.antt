@@ -1,5 +1,5 @@
 -- Bytes read one by one against a grammar whose characters are bytes in ranges: modified UTF-8 and UTF-8.
-use Rattle.std.proofs.Common.{◌≡◌, ℕ, zero, suc, ◌+◌, ◌-◌, ◌<◌, ◌≤◌, ◌↔◌, Bool, true, false, cond, List, [], ◌∷◌, ◌++◌, length, take, drop, get_or, refl, sym, ap, subst, ◌∙◌, append_assoc, append-nil, arith, lit≤, take_all, length-take}
+use Rattle.std.proofs.Common.{◌≡◌, ℕ, zero, suc, ◌+◌, ◌-◌, ◌<◌, ◌≤◌, ◌↔◌, Bool, true, false, cond, List, [], ◌∷◌, ◌++◌, length, take, drop, get_or, refl, sym, subst, append_assoc, append-nil, arith, lit≤, take_all}
 use Rattle.std.proofs.lemmas.List.{take_more, take-append-drop}
 use Rattle.std.proofs.lemmas.Option.{same_Some}
 use Rattle.std.specs.Prelude.{Option, Some, None, MatchOption}
@@ -8,15 +8,11 @@ use Rattle.jo_text.specs.CharScan.{continued, Completes, Awaits, GoesOn}
 use Rattle.jo_text.specs.declared.mutf8.Awaited.{Awaited}
 
 module _ (IsText : List ℕ → Type 0) where
-  -- at the start of a character no byte is awaited
-  pub awaits_none : Awaits IsText [] (continued 0)
-  awaits_none = record { some = lit≤ tt; exact = λ rest. (λ t. t, λ t. t) }
-
   module _ (front : List ℕ) (a : Awaited) (byte : ℕ) (h : Awaits IsText front a) where
     further : (rest : List ℕ) → IsText ((front ++ byte ∷ []) ++ rest) ↔ Completes IsText a.count a.least a.most (byte ∷ rest)
     further rest = rw (append_assoc front (byte ∷ []) rest) (h.exact (byte ∷ rest))
 
-    -- at least one byte is awaited: whether it is this one
+    -- a byte is awaited, and this one is it or not
     module _ (more : a.count ≡ 0 → ⊥) where
       count_is : a.count ≡ suc (a.count - 1)
       count_is = omega arith
@@ -35,17 +31,19 @@ module _ (IsText : List ℕ → Type 0) where
           let c = subst P count_is ((further t.0).0 t.1) in
           out c.0 c.1
 
+    -- none is awaited, and a character begins
     pub byte_leads : (next : Option Awaited) → a.count ≡ 0 → GoesOn IsText [] byte next → GoesOn IsText front byte next
     byte_leads next none g = by next g
       where
         same : (rest : List ℕ) → IsText ((front ++ byte ∷ []) ++ rest) ↔ IsText (byte ∷ rest)
         same rest = let P : ℕ → Type 0 = λ k. Completes IsText k a.least a.most (byte ∷ rest) in
             (λ t. subst P none ((further rest).0 t), λ t. (further rest).1 (subst P (sym none) t))
+
         by : (o : Option Awaited) → GoesOn IsText [] byte o → GoesOn IsText front byte o
         by None g = λ t. g (t.0, (same t.0).0 t.1)
         by (Some b) g = record { some = g.some; exact = λ rest. (λ t. (g.exact rest).0 ((same rest).0 t), λ t. (same rest).1 ((g.exact rest).1 t)) }
 
-  -- what is awaited can come, and so a text begins with the bytes
+  -- what is awaited can come, so that some text begins with the bytes
   completion : (n least most : ℕ) → IsText [] → least ≤ most → (rest : List ℕ) × Completes IsText n least most rest
   completion zero least most empty some = ([], empty)
   completion (suc n) least most empty some = let more = completion n 0x80 0xBF empty (lit≤ tt) in (least ∷ more.0, (omega arith, some, more.1))
@@ -53,7 +51,7 @@ module _ (IsText : List ℕ → Type 0) where
   begins : (front : List ℕ) (a : Awaited) → IsText [] → Awaits IsText front a → BeginsText IsText front
   begins front a empty h = let c = completion a.count a.least a.most empty h.some in (c.0, (h.exact c.0).1 c.1)
 
-  -- a text is no more awaited than it has come
+  -- where none is awaited the bytes are a text, and elsewhere they stop too early
   pub whole_text : (front : List ℕ) (a : Awaited) → Awaits IsText front a → a.count ≡ 0 → IsText [] → IsText front
   whole_text front a h none empty =
       let P : ℕ → Type 0 = λ k. Completes IsText k a.least a.most [] in
@@ -70,6 +68,7 @@ module _ (IsText : List ℕ → Type 0) where
         subst P is ((h.exact []).0 (subst IsText (sym (append-nil bytes)) t));
   }
 
+  -- no text goes on with the byte at i
   pub stops_at : (bytes : List ℕ) (i : ℕ) (a : Awaited) → IsText [] → Awaits IsText (take i bytes) a → i < length bytes
       → (BeginsText IsText (take i bytes ++ get_or bytes i 0 ∷ []) → ⊥) → StopsAt IsText bytes i
   stops_at bytes i a empty h lt stop =
@@ -97,7 +96,7 @@ module _ (IsText : List ℕ → Type 0) where
 
   -- ---- the first byte of a character, for a function that says what each asks for
 
-  -- what follows the byte is as awaited, and what is awaited makes a text with it
+  -- behind the byte, what is awaited makes a text; and a text is as awaited
   abbrev pub Spells : ℕ → Awaited → Type 0
   Spells b a = (a.least ≤ a.most) × ((rest : List ℕ) → Completes IsText a.count a.least a.most rest → IsText (b ∷ rest))
 
@@ -110,9 +109,9 @@ module _ (IsText : List ℕ → Type 0) where
     some = h.0;
     exact = λ rest. (
       λ t.
-      let f = follows rest t in
-      let P : Awaited → Type 0 = λ x. Completes IsText x.count x.least x.most rest in
-      subst P (sym (same_Some a f.0 f.1)) f.2,
+          let f = follows rest t in
+          let P : Awaited → Type 0 = λ x. Completes IsText x.count x.least x.most rest in
+          subst P (sym (same_Some a f.0 f.1)) f.2,
       h.1 rest,
     );
   }
@@ -144,6 +143,7 @@ module _ (IsText : List ℕ → Type 0) where
         by (y ∷ z ∷ []) h = absurd h.2.2
         by (y ∷ z ∷ w ∷ rest) h = cons y z w rest h.0 h.1 h.2.0 h.2.1 h.2.2.0 h.2.2.1 h.2.2.2
 
+-- a choice has what both of its values have
 pub by_test : {A : Type 0} (P : A → Type 0) (t : Bool) (x y : A) → (t ≡ true → P x) → (t ≡ false → P y) → P (cond t x y)
 by_test P true x y holds fails = holds refl
 by_test P false x y holds fails = fails refl

@@ -1,15 +1,15 @@
 -- Which bytes follow the first byte of a character in UTF-8.
-use Rattle.std.proofs.Common.{◌≡◌, ◌⊎◌, ℕ, zero, suc, ◌+◌, ◌-◌, ◌*◌, ◌/◌, ◌%◌, ◌<◌, ◌≤◌, Bool, cond, true, false, List, [], ◌∷◌, ◌++◌, refl, sym, ap, subst, ◌∙◌, inl, inr, ⊎_elim, arith, lit≤, lit<}
+use Rattle.std.proofs.Common.{◌≡◌, ◌⊎◌, ℕ, ◌+◌, ◌-◌, ◌*◌, ◌/◌, ◌%◌, ◌<◌, ◌≤◌, true, List, [], ◌∷◌, ◌++◌, refl, sym, ap, subst, ◌∙◌, inl, inr, ⊎_elim, arith, lit≤}
 use Rattle.std.proofs.lemmas.Bool.{cases_lt, and_parts}
 use Rattle.std.proofs.lemmas.Bool.Decides.{nat_tests}
-use Rattle.std.proofs.lemmas.Str.{IsUtf8-append, IsUtf8-encode, IsUtf8-nil}
+use Rattle.std.proofs.lemmas.Str.{IsUtf8-append, IsUtf8-encode}
 use Rattle.std.specs.Prelude.{Option, Some, None, MatchOption, if◌then◌else◌, nat_lt}
 use Rattle.std.specs.Char.{encode_utf8, IsScalar}
 use Rattle.std.specs.Int.{is_in_range}
 use Rattle.std.specs.Str.{IsUtf8, continuation_len, encode_utf8_all, all_scalars}
 use Rattle.std.specs.Str.Lossy.{second_byte_min, second_byte_max}
 use Rattle.jo_text.proofs.TextScan.{by_test, lead_goes_on, two_bytes, three_bytes, four_bytes, Spells, Follows}
-use Rattle.jo_text.specs.CharScan.{continued, Completes, GoesOn}
+use Rattle.jo_text.specs.CharScan.{continued, GoesOn}
 use Rattle.jo_text.specs.declared.mutf8.Awaited.{Awaited}
 
 -- ---- how characters are spelled
@@ -80,6 +80,7 @@ module _ (b : ℕ) (rest : List ℕ) where
     where
       at : (spelled : List ℕ) → encode_utf8 c ≡ spelled → b ∷ rest ≡ spelled ++ more
       at spelled e = is ∙ ap (λ (s : List ℕ). s ++ more) e
+
       by : (c < 0x80) ⊎ (0x80 ≤ c) → (c < 0x800) ⊎ (0x800 ≤ c) → (c < 0x1_0000) ⊎ (0x1_0000 ≤ c) → Follows IsUtf8 (utf8_lead b) rest
       by (inl less) _ _ =
           let e = at (c ∷ []) (spells_one c less) in
@@ -96,23 +97,29 @@ module _ (b : ℕ) (rest : List ℕ) where
           let first : b ≡ 0xE0 + c / 4096 = cc in
           let second : rest ≡ (0x80 + c / 64 % 64) ∷ (0x80 + c % 64) ∷ more = cc in
           let y : ℕ = 0x80 + c / 64 % 64 in
-          let scalar = no_surrogate c fits in
-          (_, leads_three b (omega arith) (omega arith), rw second (
-            min_le b y (omega arith) (λ e. omega arith) (λ e. omega arith),
-            le_max b y (omega arith) (λ e. omega (arith, scalar)) (λ e. omega arith),
-            (omega arith, omega arith, h),
-          ))
+          let scalar = no_surrogate c fits in (
+            _,
+            leads_three b (omega arith) (omega arith),
+            rw second (
+              min_le b y (omega arith) (λ e. omega arith) (λ e. omega arith),
+              le_max b y (omega arith) (λ e. omega (arith, scalar)) (λ e. omega arith),
+              (omega arith, omega arith, h),
+            ),
+          )
       by (inr _) (inr _) (inr past) =
           let e = at ((0xF0 + c / 262144) ∷ (0x80 + c / 4096 % 64) ∷ (0x80 + c / 64 % 64) ∷ (0x80 + c % 64) ∷ []) (spells_four c past) in
           let first : b ≡ 0xF0 + c / 262144 = cc in
           let second : rest ≡ (0x80 + c / 4096 % 64) ∷ (0x80 + c / 64 % 64) ∷ (0x80 + c % 64) ∷ more = cc in
           let y : ℕ = 0x80 + c / 4096 % 64 in
-          let last = below_last c fits in
-          (_, leads_four b (omega arith) (omega arith), rw second (
-            min_le b y (omega arith) (λ e. omega arith) (λ e. omega arith),
-            le_max b y (omega arith) (λ e. omega arith) (λ e. omega arith),
-            (omega arith, omega arith, (omega arith, omega arith, h)),
-          ))
+          let last = below_last c fits in (
+            _,
+            leads_four b (omega arith) (omega arith),
+            rw second (
+              min_le b y (omega arith) (λ e. omega arith) (λ e. omega arith),
+              le_max b y (omega arith) (λ e. omega arith) (λ e. omega arith),
+              (omega arith, omega arith, (omega arith, omega arith, h)),
+            ),
+          )
 
   begins_text : IsUtf8 (b ∷ rest) → Follows IsUtf8 (utf8_lead b) rest
   begins_text h = by h.0 h.1.0 h.1.1
@@ -143,9 +150,9 @@ cons_three b low high y z rest y_low y_high z_low z_high h =
     let q : 0x80 + c / 64 % 64 ≡ y = omega (arith, second) in
     let r : 0x80 + c % 64 ≡ z = omega arith in
     let fits : IsScalar c = ⊎_elim
-        (λ (below : b < 0xEE). let most : b * 256 + y ≤ 0xED9F = grind (arith, nat_tests) in low_scalar c (omega arith))
-        (λ (above : 0xEE ≤ b). high_scalar c (omega arith) (omega arith))
-        (cases_lt b 0xEE) in
+    (λ (below : b < 0xEE). let most : b * 256 + y ≤ 0xED9F = grind (arith, nat_tests) in low_scalar c (omega arith))
+    (λ (above : 0xEE ≤ b). high_scalar c (omega arith) (omega arith))
+    (cases_lt b 0xEE) in
     cons_char c (b ∷ y ∷ z ∷ []) rest fits (spells_three c (omega arith) (omega arith) ∙ cc (p, q, r)) h
 
 cons_four : (b : ℕ) → 0xF0 ≤ b → b ≤ 0xF4 → (y z w : ℕ) (rest : List ℕ) → second_byte_min b ≤ y → y ≤ second_byte_max b → 0x80 ≤ z → z ≤ 0xBF → 0x80 ≤ w → w ≤ 0xBF → IsUtf8 rest → IsUtf8 (b ∷ y ∷ z ∷ w ∷ rest)

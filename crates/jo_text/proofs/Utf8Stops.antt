@@ -1,5 +1,5 @@
 -- Where bytes stop being UTF-8, of the fault that `from_utf8` finds.
-use Rattle.std.proofs.Common.{◌≡◌, ◌⊎◌, ℕ, zero, suc, ◌+◌, ◌-◌, ◌<◌, ◌≤◌, Bool, cond, true, false, List, [], ◌∷◌, ◌++◌, length, take, drop, get_or, refl, sym, ap, subst, ◌∙◌, inl, inr, ⊎_elim, true≢false, append_assoc, take_all, add-zero, get_or-drop, length-drop, arith, lit≤}
+use Rattle.std.proofs.Common.{◌≡◌, ℕ, ◌+◌, ◌-◌, ◌<◌, ◌≤◌, true, false, List, [], ◌∷◌, ◌++◌, length, take, drop, get_or, refl, sym, ap, subst, ◌∙◌, ⊎_elim, true≢false, append_assoc, take_all, add-zero, get_or-drop, length-drop, arith, lit≤}
 use Rattle.std.proofs.lemmas.Bool.{cases_lt, cases_Bool}
 use Rattle.std.proofs.lemmas.Bool.Decides.{nat_tests}
 use Rattle.std.proofs.lemmas.Str.{IsUtf8-append, IsUtf8-nil, IsUtf8-past_char}
@@ -35,17 +35,20 @@ module _ (bs : List ℕ) (n : ℕ) (valid : IsValidUpTo bs n) where
   lead_is : slice_index rest 0 ≡ get_or bs n 0
   lead_is = get_or-drop n bs 0 0 ∙ ap (λ (i : ℕ). get_or bs i 0) (add-zero n)
 
+  -- none is awaited behind the longest front that is a text
   start : Awaits IsUtf8 (take n bs) (continued 0)
   start = record { some = lit≤ tt; exact = λ rest. (past_text (take n bs) rest valid.front, IsUtf8-append (take n bs) rest valid.front) }
 
-  -- no further front is a text, so that something is awaited there
+  -- no longer front is a text, so that some byte is awaited there
   more : (m : ℕ) (a : Awaited) → n < m → Awaits IsUtf8 (take m bs) a → a.count ≡ 0 → ⊥
   more m a past h none = valid.longest m past (whole_text IsUtf8 (take m bs) a h none IsUtf8-nil)
 
+  -- and where the bytes end there they only stop too early
   cut : (m : ℕ) (a : Awaited) → n < m → length bs ≤ m → Awaits IsUtf8 (take m bs) a → StopsAt IsUtf8 bs (length bs)
   cut m a past end h = stops_short IsUtf8 bs a IsUtf8-nil (rw (take_all m bs end) at h) (more m a past h)
 
-  -- the first byte at fault begins no character
+  -- ---- the first byte at fault begins no character
+
   pub stops_at_start : is_in_range 0xC2 0xF4 (get_or bs n 0) ≡ false → StopsAt IsUtf8 bs n
   stops_at_start other =
       let x = get_or bs n 0 in
@@ -57,7 +60,8 @@ module _ (bs : List ℕ) (n : ℕ) (valid : IsValidUpTo bs n) where
       (λ (past : 0x80 ≤ x). let is : utf8_lead x ≡ None = grind (arith, nat_tests) in rw is at next)
       (cases_lt x 0x80)
 
-  -- it begins one, and so do the bytes behind it that are counted with it
+  -- ---- it begins one: the bytes behind it, one by one as `utf8_error_len` tests them
+
   module _ (lead : is_in_range 0xC2 0xF4 (get_or bs n 0) ≡ true) where
     abbrev asked : Awaited
     asked = let x = get_or bs n 0 in record { count = continuation_len x; least = second_byte_min x; most = second_byte_max x }

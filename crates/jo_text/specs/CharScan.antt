@@ -1,5 +1,4 @@
--- What bytes at the front of a text ask for behind them, byte by byte. Private functions compute this, and the public
--- contracts cite `Texts` alone.
+-- Which bytes may follow those at the front of a text. Private functions compute this; the public contracts cite `Texts` alone.
 use Rattle.std.specs.Prelude.{ℕ, zero, suc, ◌≤◌, ◌↔◌, ◌==◌, if◌then◌else◌, List, [], ◌∷◌, ◌++◌, Option, Some, None, MatchOption}
 use Rattle.std.specs.Int.{is_in_range}
 use Rattle.jo_text.specs.Texts.{BeginsText}
@@ -15,16 +14,16 @@ Completes IsText zero least most bytes = IsText bytes
 Completes IsText (suc count) least most [] = ⊥
 Completes IsText (suc count) least most (b ∷ bytes) = (least ≤ b) × (b ≤ most) × Completes IsText count 0x80 0xBF bytes
 
--- behind the bytes a text goes on with what is awaited, and only so
+-- the texts that begin with the bytes go on with what is awaited, and some do
 pub record Awaits (IsText : List ℕ → Type 0) (bytes : List ℕ) (awaited : Awaited) : Type 0 where
   pub some : awaited.least ≤ awaited.most
   pub exact : (rest : List ℕ) → IsText (bytes ++ rest) ↔ Completes IsText awaited.count awaited.least awaited.most rest
 
--- what is awaited behind the bytes and one byte more, or that no text begins so
+-- what is awaited behind the bytes and one more, or that no text begins so
 abbrev pub GoesOn : (List ℕ → Type 0) → List ℕ → ℕ → Option Awaited → Type 0
 GoesOn IsText bytes byte next = MatchOption next (BeginsText IsText (bytes ++ byte ∷ []) → ⊥) (Awaits IsText (bytes ++ byte ∷ []))
 
--- what the first byte of a character asks for in modified UTF-8
+-- what is awaited behind the first byte of a character in modified UTF-8
 abbrev pub mutf8_lead : ℕ → Option Awaited
 mutf8_lead b =
     if is_in_range 0x01 0x7F b then Some (continued 0)

@@ -8,3 +8,4 @@ pub mod Escapes
 pub mod EscapeScan
 pub mod Numbers
 pub mod NumberScan
+pub mod Tests

@@ -1,6 +1,6 @@
 -- Modified UTF-8 (JVM Specification SE 8, 4.4.7): each character, from 0 to 0xFFFF, in its one spelling. What lies past
 -- 0xFFFF is spelled as two such characters, a pair of surrogates; here a surrogate may also stand alone.
-use Rattle.std.specs.Prelude.{◌≡◌, ℕ, ◌+◌, ◌*◌, ◌/◌, ◌%◌, ◌<◌, Bool, ◌&&◌, nat_lt, if◌then◌else◌, List, [], ◌∷◌}
+use Rattle.std.specs.Prelude.{◌≡◌, ℕ, ◌+◌, ◌/◌, ◌%◌, ◌<◌, ◌&&◌, nat_lt, if◌then◌else◌, List, [], ◌∷◌}
 use Rattle.std.specs.List.{flat_map, AllByRecursion}
 
 -- One byte for 1 to 0x7F, two for 0 and for 0x80 to 0x7FF, three for the rest: no byte is 0, and none is 0xF0 or more.

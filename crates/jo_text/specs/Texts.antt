@@ -1,5 +1,5 @@
 -- Where bytes stop being the text of a grammar (this project's own).
-use Rattle.std.specs.Prelude.{◌≡◌, ℕ, ◌+◌, ◌<◌, ◌≤◌, List, ◌++◌, length, take}
+use Rattle.std.specs.Prelude.{ℕ, ◌+◌, ◌<◌, ◌≤◌, List, ◌++◌, length, take}
 
 -- some text of the grammar begins with these bytes
 abbrev pub BeginsText : (List ℕ → Type 0) → List ℕ → Type 0

@@ -1,9 +1,10 @@
 //! Names and descriptors (JVM Specification SE 8, 4.2 and 4.3).
-ghost use Rattle.std.specs.Prelude.{◌≡◌, ◌≤◌, ◌==◌, length, ◌++◌, ◌↔◌, [], true, position, None, IsTrue, IfOk, IfErr, MatchOption, option_map};
+ghost use Rattle.std.specs.Prelude.{◌≡◌, ◌≤◌, ◌==◌, length, ◌↔◌, [], true, position, None, IsTrue, IfOk, IfErr, MatchOption, option_map};
 ghost use Rattle.std.specs.Option.{option_copied};
 ghost use Rattle.std.specs.List.{list_any, prefix_len};
 ghost use Rattle.jo_text.specs.Descriptors.{is_one_of, IsClassName, IsMemberName, IsFieldDesc, IsMethodDesc, IsClassOrArray, SpellsField, SpellsMethod};
 ghost use Rattle.jo_text.specs.Scan.{after_byte, breaks_name, names_on, base_seen, field_seen, read_class, letter_base, read_base, read_field, PassFields, BeginsFields, SpellsResult, IsResultDesc};
+ghost use Rattle.jo_text.specs.Tests.{is_class_name, is_member_name, is_field_desc, is_method_desc, is_class_or_array};
 ghost use Rattle.jo_text.specs.declared.texts.DescFault.TheVariants.{Bad};
 
 use crate::texts::{DescFault, Memory, Name};
@@ -211,7 +212,7 @@ fn after_field(bytes: &[u8]) -> Option<&[u8]>
 }
 
 /// What follows the field descriptors that begin the bytes, as many as there are.
-fn after_fields(bytes: &[u8]) -> &[u8]
+fn after_params(bytes: &[u8]) -> &[u8]
     ensures passed { BeginsFields bytes.now result.now }
     ensures all { read_field result.now ≡ None }
 {
@@ -281,49 +282,51 @@ fn read_result(alloc: Global, bytes: &[u8]) -> Result<Option<FieldDesc>, DescFau
     if bytes == b"V".as_slice() {
         return Ok(None);
     }
-    match read_field_desc(alloc, bytes) {
-        Ok(desc) => Ok(Some(desc)),
-        Err(fault) => Err(fault),
-    }
+    read_field_desc(alloc, bytes).map(Some)
 }
 
 /// Whether the bytes are the internal form of a class's name.
 pub fn is_class_name(bytes: &[u8]) -> bool
-    ensures { IsTrue result ↔ IsClassName bytes.now }
+    ensures grammar { IsTrue result ↔ IsClassName bytes.now }
+    ensures test { result ≡ is_class_name bytes.now }
 {
     joins_names(bytes)
 }
 
 /// Whether the bytes are the name of a field or method.
 pub fn is_member_name(bytes: &[u8]) -> bool
-    ensures { IsTrue result ↔ IsMemberName bytes.now }
+    ensures grammar { IsTrue result ↔ IsMemberName bytes.now }
+    ensures test { result ≡ is_member_name bytes.now }
 {
     !bytes.is_empty() && !has_one_of(b".;[/(:", bytes)
 }
 
 /// Whether the bytes are a field descriptor.
 pub fn is_field_desc(bytes: &[u8]) -> bool
-    ensures { IsTrue result ↔ IsFieldDesc bytes.now }
+    ensures grammar { IsTrue result ↔ IsFieldDesc bytes.now }
+    ensures test { result ≡ is_field_desc bytes.now }
 {
     whole_field(bytes).is_some()
 }
 
 /// Whether the bytes are a method descriptor.
 pub fn is_method_desc(bytes: &[u8]) -> bool
-    ensures { IsTrue result ↔ IsMethodDesc bytes.now }
+    ensures grammar { IsTrue result ↔ IsMethodDesc bytes.now }
+    ensures test { result ≡ is_method_desc bytes.now }
 {
     let Some(params) = after_byte(b'(', bytes) else {
         return false;
     };
-    match after_byte(b')', after_fields(params)) {
-        Some(outcome) => is_result_desc(outcome),
+    match after_byte(b')', after_params(params)) {
+        Some(result) => is_result_desc(result),
         None => false,
     }
 }
 
 /// Whether the bytes are what a Class entry may name: a class, or an array's descriptor.
 pub fn is_class_or_array(bytes: &[u8]) -> bool
-    ensures { IsTrue result ↔ IsClassOrArray bytes.now }
+    ensures grammar { IsTrue result ↔ IsClassOrArray bytes.now }
+    ensures test { result ≡ is_class_or_array bytes.now }
 {
     match after_byte(b'[', bytes) {
         Some(_) => is_field_desc(bytes),
@@ -356,9 +359,132 @@ pub fn read_method_desc(alloc: Global, bytes: &[u8]) -> Result<MethodDesc, DescF
     let Some(rest) = after_byte(b')', rest) else {
         return Err(DescFault::Bad);
     };
-    let outcome = read_result(alloc, rest)?;
-    Ok(MethodDesc {
-        params,
-        result: outcome,
-    })
+    let result = read_result(alloc, rest)?;
+    Ok(MethodDesc { params, result })
+}
+
+#[cfg(test)]
+mod tests {
+    use super::*;
+    use std::test::Fail;
+
+    #[test]
+    fn names_of_members(rt: HostRuntime) {
+        for name in ["a", "<init>", "lambda$0", "a b", "\u{e9}"] {
+            assert!(rt; is_member_name(name.as_bytes()), "{name}");
+        }
+        for name in ["", "a.b", "a;", "[a", "a/b", "f(", "a:b"] {
+            assert!(rt; !is_member_name(name.as_bytes()), "{name}");
+        }
+    }
+
+    #[test]
+    fn names_of_classes(rt: HostRuntime) {
+        for name in ["A", "java/lang/String", "a b/c", "f(:"] {
+            assert!(rt; is_class_name(name.as_bytes()), "{name}");
+        }
+        for name in [
+            "",
+            "/",
+            "/A",
+            "A/",
+            "a//B",
+            "java.lang.String",
+            "A;",
+            "[A",
+            "a/[B",
+        ] {
+            assert!(rt; !is_class_name(name.as_bytes()), "{name}");
+        }
+    }
+
+    #[test]
+    fn descs_of_fields(rt: HostRuntime) {
+        for text in [
+            "B",
+            "C",
+            "D",
+            "F",
+            "I",
+            "J",
+            "S",
+            "Z",
+            "LA;",
+            "Ljava/lang/String;",
+            "[I",
+            "[[LA;",
+        ] {
+            assert!(rt; is_field_desc(text.as_bytes()), "{text}");
+        }
+        for text in [
+            "", "V", "A", "b", "L", "L;", "LA", "LA/;", "L[I;", "[", "[V", "II", "I[", "LA;;",
+        ] {
+            assert!(rt; !is_field_desc(text.as_bytes()), "{text}");
+        }
+    }
+
+    #[test]
+    fn dimensions_of_fields(rt: HostRuntime) -> Result<(), Fail> {
+        let mut text = [b'['; 257];
+        text[256] = b'I';
+        assert!(rt; !is_field_desc(&text));
+        assert!(rt; is_field_desc(&text[1..]));
+        let desc = read_field_desc(rt.alloc(), &text[1..])
+            .ok()
+            .ok_or("it is a descriptor")?;
+        assert_eq!(rt; desc.dims, 255);
+        assert!(rt; matches!(desc.base, Base::Int));
+        Ok(())
+    }
+
+    #[test]
+    fn descs_of_methods(rt: HostRuntime) {
+        for text in ["()V", "(I)V", "(BCDFIJSZ)[I", "()LA;", "(LA;[[LB;)D"] {
+            assert!(rt; is_method_desc(text.as_bytes()), "{text}");
+        }
+        for text in [
+            "", "V", "()", "(V)V", "([V)V", "()VV", "()V ", "()II", "()[V", "(I", "I)V", "(L;)V",
+            "(LA)V", "(I)V)", "(())V",
+        ] {
+            assert!(rt; !is_method_desc(text.as_bytes()), "{text}");
+        }
+    }
+
+    #[test]
+    fn classes_and_arrays(rt: HostRuntime) {
+        for name in ["A", "I", "java/lang/String", "[I", "[[LA;"] {
+            assert!(rt; is_class_or_array(name.as_bytes()), "{name}");
+        }
+        for name in ["", "LA;", "[", "[A", "[LA", "A[]"] {
+            assert!(rt; !is_class_or_array(name.as_bytes()), "{name}");
+        }
+    }
+
+    fn is_class(base: &Base, name: &[u8]) -> bool {
+        match base {
+            Base::Class(found) => found.as_slice() == name,
+            _ => false,
+        }
+    }
+
+    #[test]
+    fn a_method_desc_is_read(rt: HostRuntime) -> Result<(), Fail> {
+        let desc = read_method_desc(rt.alloc(), b"(IJ[[Ljava/lang/String;)D")
+            .ok()
+            .ok_or("it is a descriptor")?;
+        let params = desc.params.as_slice();
+        assert_eq!(rt; params.len(), 3);
+        assert!(rt; params[0].dims == 0 && matches!(params[0].base, Base::Int));
+        assert!(rt; params[1].dims == 0 && matches!(params[1].base, Base::Long));
+        assert!(rt; params[2].dims == 2 && is_class(&params[2].base, b"java/lang/String"));
+        let result = desc.result.as_ref().ok_or("it has a result")?;
+        assert!(rt; result.dims == 0 && matches!(result.base, Base::Double));
+        Ok(())
+    }
+
+    #[test]
+    fn other_texts_are_no_descs(rt: HostRuntime) {
+        assert!(rt; matches!(read_field_desc(rt.alloc(), b"V"), Err(DescFault::Bad)));
+        assert!(rt; matches!(read_method_desc(rt.alloc(), b"(I)"), Err(DescFault::Bad)));
+    }
 }

@@ -18,6 +18,6 @@ pub use descriptors::{
 };
 pub use escapes::{escape, push_escaped, unescape};
 pub use lines::{ListFault, split_lines};
-pub use mutf8::check_mutf8;
+pub use mutf8::{check_mutf8, is_mutf8};
 pub use numbers::read_number;
 pub use texts::{DescFault, Memory, Name};

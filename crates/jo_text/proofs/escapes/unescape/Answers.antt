@@ -8,10 +8,10 @@ pub loop-byte-preserved : goal.loop-byte-preserved
 loop-byte-preserved c =
     let is : c.push.new.self.items ≡ c.loop-byte.name.items ++ c.in-Some.byte ∷ [] = search rules in
     record {
-  read = grind (arith, common_steps);
-  bytes = subst (λ (bytes : List ℕ). AllByRecursion (λ byte. byte < 2 ^ 8) bytes) (sym is) (all_bytes c.loop-byte.name.items c.in-Some.byte c.loop-byte.invariant.bytes c.in-Some.ensures.0);
-  left = λ s. spelling_rest _ _ _ c.in-Some.ensures (c.loop-byte.invariant.left s);
-}
+      read = grind (arith, common_steps);
+      bytes = subst (λ (bytes : List ℕ). AllByRecursion (λ byte. byte < 2 ^ 8) bytes) (sym is) (all_bytes c.loop-byte.name.items c.in-Some.byte c.loop-byte.invariant.bytes c.in-Some.ensures.0);
+      left = λ s. spelling_rest _ _ _ c.in-Some.ensures (c.loop-byte.invariant.left s);
+    }
 
 pub returns-else-is_empty-clause-bad : goal.returns-else-is_empty-clause-bad
 returns-else-is_empty-clause-bad c = λ bad name all e.

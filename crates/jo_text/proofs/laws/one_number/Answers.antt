@@ -1,4 +1,3 @@
-use Rattle.std.proofs.Common.{sym, ◌∙◌}
 use Rattle.jo_text.proofs.NumberLaws.{one_number}
 use Rattle.jo_text.proofs.laws.one_number.Goals as goal
 

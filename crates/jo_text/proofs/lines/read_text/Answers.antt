@@ -1,4 +1,3 @@
-use Rattle.std.proofs.Common.{◌≡◌, sym, ◌∙◌}
 use Rattle.std.specs.Str.{IsValidUpTo}
 use Rattle.jo_text.proofs.Utf8Stops.{stops_inside, stops_at_start, stops_at_end}
 use Rattle.jo_text.proofs.lines.read_text.Goals as goal

@@ -1,9 +1,8 @@
-use Rattle.std.proofs.Common.{◌≡◌, take, subst, sym, take_all, arith}
+use Rattle.std.proofs.Common.{◌≡◌, take, take_all, arith}
 use Rattle.jo_text.proofs.Mutf8Leads.{IsMutf8-nil}
 use Rattle.jo_text.proofs.TextScan.{stops_at, stops_short, whole_text}
-use Rattle.jo_text.specs.CharScan.{Awaits}
 use Rattle.jo_text.specs.Mutf8.{IsMutf8}
-use Rattle.jo_text.proofs.mutf8.check_mutf8.Goals as goal
+use Rattle.jo_text.proofs.mutf8.stop_of.Goals as goal
 
 pub returns-in-None : goal.returns-in-None
 returns-in-None c =

@@ -1,5 +1,5 @@
 use Rattle.jo_text.proofs.DescriptorMethods.{begins_more, rest_shorter}
-use Rattle.jo_text.proofs.descriptors.after_fields.Goals as goal
+use Rattle.jo_text.proofs.descriptors.after_params.Goals as goal
 
 pub loop-after-smaller : goal.loop-after-smaller
 loop-after-smaller c = rest_shorter c.loop-after.rest.now c.in-Some.after.now c.in-Some.ensures
