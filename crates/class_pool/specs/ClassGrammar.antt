@@ -109,10 +109,10 @@ IsConstantValue pool desc attribute constant = (attribute.content ≡ u2 constan
 
 -- The constant of a static field: that of its one ConstantValue, where it has one. Any other field has none.
 pub data HasConstant (pool : List PoolEntry) (static : Bool) (desc : ℕ) : List Attribute → Option ℕ → Type 0 where
-  no_attribute : HasConstant pool static desc [] None
-  other : (attribute : Attribute) (more : List Attribute) (constant : Option ℕ) → (static ≡ true → utf8_at pool attribute.name ≡ Some (codes "ConstantValue") → ⊥)
+  no_constant : HasConstant pool static desc [] None
+  not_constant : (attribute : Attribute) (more : List Attribute) (constant : Option ℕ) → (static ≡ true → utf8_at pool attribute.name ≡ Some (codes "ConstantValue") → ⊥)
       → HasConstant pool static desc more constant → HasConstant pool static desc (attribute ∷ more) constant
-  value : (attribute : Attribute) (more : List Attribute) (constant : ℕ) → static ≡ true → utf8_at pool attribute.name ≡ Some (codes "ConstantValue")
+  constant_value : (attribute : Attribute) (more : List Attribute) (constant : ℕ) → static ≡ true → utf8_at pool attribute.name ≡ Some (codes "ConstantValue")
       → IsConstantValue pool desc attribute constant → HasConstant pool static desc more None → HasConstant pool static desc (attribute ∷ more) (Some constant)
 
 pub record SpellsField (pool : List PoolEntry) (f : FieldInfo) (bytes : List ℕ) : Type 0 where
@@ -175,9 +175,9 @@ pub record SpellsCode (pool : List PoolEntry) (c : CodeInfo) (content : List ℕ
 
 -- the codes of a method's attributes: those named Code, in order
 pub data HasCodes (pool : List PoolEntry) : List Attribute → List CodeInfo → Type 0 where
-  no_attribute : HasCodes pool [] []
-  other : (attribute : Attribute) (more : List Attribute) (codes_of : List CodeInfo) → (utf8_at pool attribute.name ≡ Some (codes "Code") → ⊥) → HasCodes pool more codes_of → HasCodes pool (attribute ∷ more) codes_of
-  code : (attribute : Attribute) (more : List Attribute) (c : CodeInfo) (codes_of : List CodeInfo) → utf8_at pool attribute.name ≡ Some (codes "Code") → SpellsCode pool c attribute.content
+  no_code : HasCodes pool [] []
+  not_code : (attribute : Attribute) (more : List Attribute) (codes_of : List CodeInfo) → (utf8_at pool attribute.name ≡ Some (codes "Code") → ⊥) → HasCodes pool more codes_of → HasCodes pool (attribute ∷ more) codes_of
+  code_attribute : (attribute : Attribute) (more : List Attribute) (c : CodeInfo) (codes_of : List CodeInfo) → utf8_at pool attribute.name ≡ Some (codes "Code") → SpellsCode pool c attribute.content
       → HasCodes pool more codes_of → HasCodes pool (attribute ∷ more) (c ∷ codes_of)
 
 abbrev pub codes_in : Option CodeInfo → List CodeInfo

@@ -1,7 +1,8 @@
 -- Code (JVM Specification SE 8, 4.7.3, 4.9.1): first its instructions one after another, then their jumps, then the rows of
 -- its exception table. A fault here is a code and a pc, or a code and a row.
-use Rattle.std.specs.Prelude.{ℕ, zero, suc, ◌+◌, ◌-◌, ◌*◌, Bool, true, false, ◌&&◌, ◌||◌, not, nat_lt, nat_le, ◌==◌, if◌then◌else◌, ℤ, pos, ◌+ℤ◌, int_eq, List, [], ◌∷◌, ◌++◌, length, take, drop, map, Option, Some, None, Result, Ok, Err, slice_index}
+use Rattle.std.specs.Prelude.{ℕ, zero, suc, ◌+◌, ◌-◌, ◌*◌, Bool, true, false, ◌&&◌, ◌||◌, not, nat_lt, nat_le, ◌==◌, if◌then◌else◌, ℤ, pos, ◌+ℤ◌, ◌%◌, List, [], ◌∷◌, ◌++◌, length, take, drop, map, Option, Some, None, Result, Ok, Err, slice_index}
 use Rattle.std.specs.List.{list_any, list_all, flat_map}
+use Rattle.std.specs.Ordering.{int_eq}
 use Rattle.byteorder.specs.Endian.{big_number, twos_complement}
 use Rattle.jo_text.specs.Tests.{is_field_desc, is_method_desc}
 use Rattle.jo_insn.specs.declared.instructions.Insn.{Insn}

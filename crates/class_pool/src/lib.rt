@@ -6,6 +6,7 @@ mod classes;
 mod entries;
 mod faults;
 pub mod items;
+pub mod laws;
 mod reader;
 mod references;
 

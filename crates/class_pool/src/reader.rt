@@ -1,6 +1,5 @@
 //! Reads the constant pool.
 ghost use Rattle.std.specs.Prelude.{◌≡◌, None};
-ghost use Rattle.jo_text.specs.Tests.{is_mutf8 as passes_mutf8};
 ghost use Rattle.class_pool.specs.Pool.{read_utf8, read_indices, read_tagged, read_handle, read_entry, read_entries, owed_by, read_pool_from as pool_from};
 ghost use Rattle.class_pool.specs.Outcomes.{Gives};
 
@@ -12,15 +11,8 @@ use crate::items::{
 };
 use crate::references::reference_fault;
 use jo_ids::List;
-use jo_text::Name;
+use jo_text::{Name, is_mutf8};
 use std::alloc::Global;
-
-/// Whether the text is modified UTF-8.
-fn is_mutf8(text: &[u8]) -> bool
-    ensures { result ≡ passes_mutf8 text.now }
-{
-    false
-}
 
 #[tactic(auto, unfolding(crate::specs::Pool::read_utf8))]
 fn utf8_entry(

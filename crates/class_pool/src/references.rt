@@ -1,5 +1,5 @@
 //! Checks what the entries of a pool refer to.
-ghost use Rattle.std.specs.Prelude.{◌≡◌, ◌∷◌, [], Bool, true};
+ghost use Rattle.std.specs.Prelude.{◌≡◌, ◌∷◌, [], ◌||◌};
 ghost use Rattle.jo_text.specs.Tests.{is_class_or_array as passes_class, is_member_name as passes_member, is_field_desc as passes_field, is_method_desc as passes_method};
 ghost use Rattle.class_pool.specs.Pool.{entry_size as size_of_entry, questions, first_failing, reference_fault as first_fault, is_text, is_text_that, is_class as is_class_entry, is_name_and_type as is_type_entry, entry_at as entry_with, desc_at as desc_with, utf8_at as utf8_with};
 ghost use Rattle.class_pool.specs.declared.faults.ClassCode.TheVariants.{PoolIndex, BadDescriptor};

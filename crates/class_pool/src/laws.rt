@@ -1,0 +1,11 @@
+//! Laws of the grammar of class files.
+ghost use Rattle.std.specs.Prelude.{◌≡◌, ◌↔◌, ◌<◌, ◌^◌, ℕ, List, Ok};
+ghost use Rattle.std.specs.List.{AllByRecursion};
+ghost use Rattle.class_pool.specs.ClassOrder.{class_of};
+ghost use Rattle.class_pool.specs.ClassGrammar.{IsClass};
+ghost use Rattle.class_pool.specs.declared.classes.ClassFile.{ClassFile};
+
+/// Reading in order gives the class that the grammar relates to the bytes, and no other.
+pub fn reading_is_the_grammar()
+    ensures { (file : List ℕ) (class : ClassFile) → AllByRecursion (λ byte. byte < 2 ^ 8) file → (class_of file ≡ Ok class) ↔ IsClass file class }
+{}
