@@ -1,7 +1,7 @@
 //! Reports: the text of an illegal chain of the dependence graph.
 #![tactic(auto)]
 
+mod chains;
 pub mod nodes;
-mod report;
 
-pub use report::report;
+pub use chains::report;

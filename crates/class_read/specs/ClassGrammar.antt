@@ -8,7 +8,7 @@ use Rattle.class_read.specs.Lists.{u2, u4, SpellsEach}
 use Rattle.jo_text.specs.Descriptors.{IsMemberName, IsFieldDesc, IsMethodDesc, IsClassOrArray, IsClassName}
 use Rattle.jo_insn.specs.Instructions.{decoded}
 use Rattle.jo_insn.specs.declared.instructions.Insn.{Insn}
-use Rattle.jo_insn.specs.declared.instructions.Insn.TheVariants.{Plain, Local, Iinc, Push, Pooled, Array, Jump, TableSwitch, LookupSwitch}
+use Rattle.jo_insn.specs.declared.instructions.Insn.TheVariants.{Pooled, Jump, TableSwitch, LookupSwitch}
 use Rattle.class_read.specs.declared.class_pool.PoolEntry.{PoolEntry}
 use Rattle.class_read.specs.declared.class_pool.PoolEntry.TheVariants.{Utf8, Class, MethodRef, NameAndType}
 use Rattle.class_read.specs.declared.class_pool.ClassFile.{ClassFile}

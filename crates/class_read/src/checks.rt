@@ -9,9 +9,7 @@ use crate::class_pool::{
     ClassFile, CodeInfo, MethodInfo, PoolEntry, class_name_at, entry_at, utf8_at,
 };
 use jo_insn::{Insn, decode};
-use jo_text::{
-    is_class_name, is_class_or_array, is_field_desc, is_member_name, is_method_desc,
-};
+use jo_text::{is_class_name, is_class_or_array, is_field_desc, is_member_name, is_method_desc};
 
 const SYNCHRONIZED: u16 = 0x0020;
 

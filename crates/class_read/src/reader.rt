@@ -7,9 +7,9 @@ ghost use Rattle.class_read.specs.declared.class_pool.ClassFile.{ClassFile};
 
 use crate::checks::class_fits;
 use crate::class_pool::{ClassFile, CodeInfo, MethodInfo, Pool, PoolEntry, utf8_at};
+use byteorder::{BigEndian, ByteOrder};
 use jo_ids::{List, Memory};
 use jo_text::Name;
-use byteorder::{BigEndian, ByteOrder};
 use std::alloc::{AllocError, Global};
 
 /// Why no class was read.

@@ -13,8 +13,8 @@ ghost use Rattle.flow_graph.specs.Building.{definition_of, HasPlace, SameSizes, 
 use crate::dep_nodes::{Edge, EdgeKind, Graph, NodeName, SiteList};
 use crate::flow::{NodeKind, Place};
 use jo_ids::{List, Memory, MethodId, NodeId, SiteId};
-use jo_prog::operations::Operation;
 use jo_prog::labels::{Label, Labels, label_of};
+use jo_prog::operations::Operation;
 use jo_prog::program::{Program, callee_at, code_at, operation_at};
 use std::alloc::Global;
 

@@ -10,9 +10,9 @@ use crate::flow::NodeKind;
 use crate::sdg::build;
 use crate::slicer::find_walk;
 use jo_ids::{ClassId, LevelId, List, Memory, MethodId, NodeId};
-use jo_text::Name;
 use jo_prog::labels::{Label, Labels};
 use jo_prog::program::{Class, Code, MemberRef, Method, Operand, Program, TypeRef};
+use jo_text::Name;
 use std::alloc::Global;
 use std::test::Fail;
 

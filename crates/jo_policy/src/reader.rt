@@ -12,11 +12,11 @@ ghost use Rattle.jo_prog.specs.PlainCode.{desc_for as shape_of, IsWellLabelled};
 ghost use Rattle.jo_prog.specs.Program.{method_at};
 ghost use Rattle.jo_policy.specs.PolicyFile.{known_keys, keys_are_known as all_known, texts_in, are_few_levels as are_few, levels_of, place_from, level_named as named_level, pair_of, pairs_of, flows_of, spellings_of, is_entry as can_enter, entry_with, entry_of, table_of, labels_are_good as all_good, are_apart as all_apart, label_in as label_by, label_for as label_given, labelled_from, fits_label as fits_it, labels_fit_from, labelled_of, labels_with, policy_of};
 
-use jo_prog::spelling::push_spelled;
 use jo_ids::{Id, LevelId, List, Memory, MethodId};
-use jo_text::Name;
 use jo_prog::labels::{Label, Labels};
 use jo_prog::program::{Method, Program};
+use jo_prog::spelling::push_spelled;
+use jo_text::Name;
 use std::alloc::{AllocError, Global};
 use toml::{Table, Value};
 

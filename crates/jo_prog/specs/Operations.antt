@@ -1,8 +1,8 @@
 -- What the instructions of plain code do (JVM Specification SE 8, 6.5). Opcodes: 2 to 8 iconst_m1 to iconst_5, 21 iload,
 -- 26 to 29 iload_0 to iload_3, 54 istore, 59 to 62 istore_0 to istore_3, 96 iadd, 100 isub, 177 return, 184 invokestatic.
-use Rattle.std.specs.Prelude.{ℕ, ◌-◌, Bool, true, false, ◌&&◌, nat_le, ◌==◌, if◌then◌else◌, pos, ◌-ℤ◌}
+use Rattle.std.specs.Prelude.{ℕ, ◌-◌, Bool, false, ◌&&◌, nat_le, ◌==◌, if◌then◌else◌, pos, ◌-ℤ◌}
 use Rattle.jo_insn.specs.declared.instructions.Insn.{Insn}
-use Rattle.jo_insn.specs.declared.instructions.Insn.TheVariants.{Plain, Local, Iinc, Push, Pooled, Array, Jump, TableSwitch, LookupSwitch}
+use Rattle.jo_insn.specs.declared.instructions.Insn.TheVariants.{Plain, Local, Push, Pooled}
 use Rattle.jo_prog.specs.declared.operations.Operation.{Operation}
 use Rattle.jo_prog.specs.declared.operations.Operation.TheVariants.{Constant, Load, Store, Add, Subtract, InvokeStatic, Return, Other}
 

@@ -7,9 +7,9 @@ ghost use Rattle.jo_prog.specs.PlainCode.{calls_labelled, goes_on, IsPlainFrom};
 ghost use Rattle.jo_prog.specs.IntShapes.{shape_of};
 
 use crate::labels::{Label, Labels, label_of};
+use crate::operations::Operation;
 use crate::program::{Code, Program, callee_of, code_at, method_at, operation_in};
 use jo_ids::{Memory, MethodId};
-use crate::operations::Operation;
 use std::alloc::Global;
 
 // ---- plain code

@@ -5,8 +5,8 @@ ghost use Rattle.std.specs.Option.{option_copied};
 ghost use Rattle.jo_prog.specs.Program.{method_at, class_at, code_at, operation_in, operation_at, first_with, resolve_operand, operand_at, callee_of, callee_at};
 ghost use Rattle.std.specs.Str.{bytes_eq};
 
-use jo_ids::{ClassId, FieldId, List, MethodId};
 use crate::operations::{Operation, operation_of};
+use jo_ids::{ClassId, FieldId, List, MethodId};
 use jo_insn::decode;
 use jo_text::{FieldDesc, Name};
 

@@ -11,10 +11,10 @@ ghost use Rattle.jo_prog.specs.Running.{state_of, quiet, executed, called_by};
 
 use crate::labels::{Label, Labels, label_of};
 use crate::linker::add;
+use crate::operations::Operation;
 use crate::program::{Program, callee_of, code_at, operation_in};
 use crate::runs::{Event, Inputs, SourceInput, Trace};
 use jo_ids::{List, Memory, MethodId};
-use crate::operations::Operation;
 use std::alloc::Global;
 
 /// The state of a run: the frame of its one thread, and for each method how many ints it has given as a source.

@@ -8,9 +8,9 @@ use crate::linker::{add, link};
 use crate::program::Program;
 use crate::runner::run;
 use crate::runs::{Event, Inputs, SourceInput, Trace};
+use class_read::read_class;
 use jo_ids::{LevelId, List, Memory, MethodId};
 use jo_text::Name;
-use class_read::read_class;
 use std::alloc::Global;
 use std::test::Fail;
 

@@ -6,7 +6,7 @@ use Rattle.std.specs.declared.alloc.Global.{Global}
 use Rattle.joana_cli.specs.Words.{CheckNames, paths_of}
 use Rattle.joana_cli.specs.FirstForm.{Held}
 use Rattle.joana_cli.specs.Outcome.{IsReadName}
-use Rattle.joana_cli.specs.Input.{AfterReads, AfterListReads, AfterReadsBy, Holds, ReadsClassOf, ReadsInput}
+use Rattle.joana_cli.specs.Input.{AfterReads, AfterListReads, Holds, ReadsClassOf, ReadsInput}
 use Rattle.joana_cli.specs.declared.input.InputFiles.{InputFiles}
 use Rattle.joana_cli.specs.declared.input.Stop.{Stop}
 use Rattle.joana_cli.specs.declared.input.Stop.TheVariants.{NotBuilt, Unread, Memory}

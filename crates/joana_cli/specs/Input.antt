@@ -27,6 +27,10 @@ AfterReadsBy IsName (Err NotBuilt) old new failed = new ≡ old
 AfterReadsBy IsName (Err (Unread u)) old new failed = Rose old new × IsName u.number failed × (string_bytes u.name ≡ failed)
 AfterReadsBy IsName (Err Memory) old new failed = old ≤ new
 
+-- one read, with this number and name
+abbrev pub AfterPathRead : {T : Type 0} → ℕ → List ℕ → Result T Stop → ℕ → ℕ → List ℕ → Type 0
+AfterPathRead number path result old new failed = AfterReadsBy (λ n name. (n ≡ number) × (name ≡ path)) result old new failed
+
 -- the reads of paths have numbers from 2 on
 abbrev pub AfterPathReads : {T : Type 0} → List (List ℕ) → Result T Stop → ℕ → ℕ → List ℕ → Type 0
 AfterPathReads paths result old new failed = AfterReadsBy (λ number name. (k : ℕ) × (number ≡ k + 2) × (slice_get paths k ≡ Some name)) result old new failed
@@ -41,6 +45,12 @@ AfterReads held names result old new failed = AfterReadsBy (IsReadName held name
 -- the bytes are what is held under the name, where that is told
 abbrev pub Holds : Held → List ℕ → List ℕ → Type 0
 Holds held name bytes = IfSome (held name) (λ told. bytes ≡ told)
+
+-- a read stops only where it fails or memory is wanting
+abbrev pub ReadsPath : Held → List ℕ → Result (Vec ℕ Global) Stop → Type 0
+ReadsPath held path (Ok bytes) = Holds held path bytes.items
+ReadsPath held path (Err NotBuilt) = ⊥
+ReadsPath held path _ = Unit {0}
 
 -- a list of one path with those bytes under it; else the list isn't text, or hasn't one path
 abbrev pub ReadsClassOf : Held → List ℕ → Result (Vec ℕ Global) Stop → Type 0

@@ -1,10 +1,13 @@
 -- What each answer of a run says: of the files, of what was put, and of the program.
-use Rattle.std.specs.Prelude.{◌≡◌, ◌⊎◌, ℕ, zero, suc, ◌<◌, ◌≤◌, List, Option, Some, None, Contains, IfSome, slice_get}
+use Rattle.std.specs.Prelude.{◌≡◌, ◌⊎◌, ℕ, zero, suc, ◌≤◌, List, Option, Some, None, IfSome, slice_get}
 use Rattle.std.specs.Str.{IsUtf8}
 use Rattle.jo_io.specs.Counts.{Rose}
 use Rattle.jo_io.specs.Sink.{Extends, ExtendsByPrefix}
 use Rattle.jo_prog.specs.declared.program.Program.{Program}
 use Rattle.jo_prog.specs.declared.labels.Labels.{Labels}
+use Rattle.flow_graph.specs.Graph.{Node}
+use Rattle.flow_graph.specs.Chains.{Link}
+use Rattle.chain_report.specs.Report.{chain_text}
 use Rattle.low_run.specs.Verdict.{CleanForAll, Reports}
 use Rattle.low_run.specs.Security.{Secure}
 use Rattle.joana_cli.specs.Words.{CheckNames, paths_of, words_line, not_built_line, file_line, output_line, accepted_text}

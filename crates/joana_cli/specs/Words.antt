@@ -1,7 +1,7 @@
 -- The words of a command, the paths of a class list, the status of a run, and the lines of notes (this project's own).
-use Rattle.std.specs.Prelude.{ℕ, ◌==◌, not, if◌then◌else◌, List, [], ◌∷◌, ◌++◌, length, filter, Option, Some, None, codes}
+use Rattle.std.specs.Prelude.{ℕ, if◌then◌else◌, List, [], ◌∷◌, ◌++◌, Option, Some, None, codes}
 use Rattle.std.specs.Str.{bytes_eq}
-use Rattle.std.specs.Str.Lines.{lines}
+use Rattle.jo_text.specs.Lines.{lines_of}
 use Rattle.joana_cli.specs.declared.words.CheckNames.{CheckNames as WordNames}
 use Rattle.joana_cli.specs.declared.status.Status.{Status}
 use Rattle.joana_cli.specs.declared.status.Status.TheVariants.{Done, Refused, Words, Input, Limit, Outside, Memory}
@@ -16,10 +16,9 @@ abbrev pub check_names : List (List ℕ) → Option CheckNames
 check_names (command ∷ classes ∷ policy ∷ []) = if bytes_eq command (codes "check") then Some (record { classes = classes; policy = policy }) else None
 check_names _ = None
 
--- The paths of a class list: a line each. Lines end with LF, a CR before it is dropped, the last one may lack the LF, and
--- empty lines are skipped.
+-- the paths of a class list: a line each
 abbrev pub paths_of : List ℕ → List (List ℕ)
-paths_of text = filter (λ line. not (length line == 0)) (lines text)
+paths_of text = lines_of text
 
 abbrev pub code_of : Status → ℕ
 code_of Done = 0

@@ -10,9 +10,9 @@ ghost use Rattle.joana_cli.specs.Decision.{Decides, MakesProgram, HasOneCode, Is
 ghost use Rattle.joana_cli.specs.FirstForm.{is_of_prelude, is_under_object};
 
 use class_read::class_pool::{ClassFile, class_name_at};
-use jo_ids::MethodId;
 use class_read::read_class;
 use flow_graph::sdg;
+use jo_ids::MethodId;
 use jo_policy::read_policy;
 use jo_prog::labels::Labels;
 use jo_prog::program::{Method, Program};

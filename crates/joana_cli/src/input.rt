@@ -1,10 +1,13 @@
 //! The files of a run, read in their order: the policy, the class list, each class file of the list.
-ghost use Rattle.std.specs.Prelude.{◌≡◌, ◌+◌, ◌-◌, ◌^◌, ◌<◌, ◌≤◌, ℕ, List, map, length, IfOk, IfErr, OnOk, Some};
+ghost use Rattle.std.specs.Prelude.{◌≡◌, ◌+◌, ◌^◌, ◌<◌, length};
+ghost use Rattle.std.specs.List.{AllByRecursion};
+ghost use Rattle.std.specs.Str.{IsUtf8};
 ghost use Rattle.joana_cli.specs.Words.{names_of};
-ghost use Rattle.joana_cli.specs.Input.{AfterReads, AfterListReads, AfterPathReads, ReadsClassOf, ReadsInput, StopsAt};
+ghost use Rattle.joana_cli.specs.Input.{AfterReads, AfterListReads, AfterPathRead, AfterPathReads, ReadsClassOf, ReadsInput, ReadsPath, StopsAt};
 
-use crate::words::{self, CheckNames};
+use crate::words::CheckNames;
 use jo_io::{FileFault, Files};
+use jo_text::{ListFault, Name, split_lines};
 use std::alloc::{AllocError, Global};
 
 /// The bytes of the two files that a check works on.
@@ -54,14 +57,34 @@ fn stop_at(alloc: Global, number: u32, name: &str, fault: FileFault) -> Stop
     }
 }
 
+/// Reads the file with that path, which is the read with this number.
+fn read_path<F: Files>(
+    alloc: Global,
+    files: &mut F,
+    number: u32,
+    path: &[u8],
+) -> Result<Vec<u8>, Stop>
+    requires { IsUtf8 path.now }
+    ensures after { AfterPathRead number path.now result (F.faults files.old) (F.faults files.new) (F.failed files.new) }
+    ensures read { ReadsPath (F.held files.old) path.now result }
+{
+    // A line of a text is a text.
+    let name = unsafe { std::str::from_utf8_unchecked(path) };
+    match files.read(alloc, name) {
+        Ok(bytes) => Ok(bytes),
+        Err(fault) => Err(stop_at(alloc, number, name, fault)),
+    }
+}
+
 /// Reads each path in turn and keeps nothing.
-fn read_each<F: Files>(alloc: Global, files: &mut F, paths: &[&str]) -> Result<(), Stop>
-    requires { length paths.now + 2 < 2 ^ 32 }
-    ensures after { AfterPathReads (map (λ path. path.now) paths.now) result (F.faults files.old) (F.faults files.new) (F.failed files.new) }
+fn read_each<F: Files>(alloc: Global, files: &mut F, paths: &[Name]) -> Result<(), Stop>
+    requires few { length paths.now + 2 < 2 ^ 32 }
+    requires texts { AllByRecursion IsUtf8 paths.now }
+    ensures { AfterPathReads paths.now result (F.faults files.old) (F.faults files.new) (F.failed files.new) }
 {
     for (place, path) in paths.iter().enumerate() {
-        if let Err(fault) = files.read(alloc, path) {
-            return Err(stop_at(alloc, place as u32 + 2, path, fault));
+        if let Err(stop) = read_path(alloc, files, place as u32 + 2, path.as_slice()) {
+            return Err(stop);
         }
     }
     Ok(())
@@ -72,15 +95,13 @@ fn read_class_file<F: Files>(alloc: Global, files: &mut F, list: &[u8]) -> Resul
     ensures after { AfterListReads list.now result (F.faults files.old) (F.faults files.new) (F.failed files.new) }
     ensures read { ReadsClassOf (F.held files.old) list.now result }
 {
-    let paths = match words::paths(alloc, list)? {
-        Some(paths) => paths,
-        None => return Err(Stop::NotBuilt),
+    let paths = match split_lines(alloc, list) {
+        Ok(paths) => paths,
+        Err(ListFault::NotUtf8(_)) => return Err(Stop::NotBuilt),
+        Err(ListFault::Memory) => return Err(Stop::Memory),
     };
     match paths.as_slice() {
-        [path] => match files.read(alloc, path) {
-            Ok(class) => Ok(class),
-            Err(fault) => Err(stop_at(alloc, 2, path, fault)),
-        },
+        [path] => read_path(alloc, files, 2, path.as_slice()),
         others => {
             if others.len() < u32::MAX as usize - 2 {
                 read_each(alloc, files, others)?;

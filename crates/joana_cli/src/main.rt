@@ -3,9 +3,9 @@
 
 mod check;
 mod input;
-mod status;
 #[cfg(test)]
 mod layer_tests;
+mod status;
 #[cfg(test)]
 mod tests;
 mod top;

@@ -1,5 +1,5 @@
 -- From walks of a graph between the two sides of an observer to illegal chains, and back.
-use Rattle.std.proofs.Common.{◌≡◌, ◌⊎◌, inl, inr, ℕ, zero, suc, ◌+◌, ◌<◌, Bool, true, false, ◌&&◌, ◌==◌, List, [], ◌∷◌, length, Option, Some, None, Contains, option_map, option_and_then, slice_get, refl, sym, ap, subst, ◌∙◌, arith}
+use Rattle.std.proofs.Common.{◌≡◌, ◌⊎◌, inl, inr, ℕ, zero, suc, Bool, true, false, ◌&&◌, ◌==◌, [], Option, Some, None, Contains, option_map, option_and_then, slice_get, refl, sym, ap, subst, ◌∙◌, arith}
 use Rattle.std.proofs.lemmas.Option.{same_Some, slice_get_within}
 use Rattle.std.proofs.lemmas.Bool.Decides.{nat_tests}
 use Rattle.jo_prog.specs.declared.labels.Label.{Label}
@@ -8,24 +8,22 @@ use Rattle.jo_prog.specs.declared.program.Program.{Program}
 use Rattle.jo_prog.specs.Labels.{label_of, reaches, misses, shown_at, brings, lets_out}
 use Rattle.jo_prog.specs.Program.{callee_at, operation_at}
 use Rattle.flow_graph.specs.declared.flow.NodeKind.{NodeKind}
-use Rattle.flow_graph.specs.declared.flow.NodeKind.TheVariants.{Entry, Exit, Instr, Call, RetVal, RetKind, Throw, Catch, Poll, XPoll, Arg, Param, Kind, Value, Thrown}
-use Rattle.flow_graph.specs.declared.dep_nodes.EdgeKind.{EdgeKind}
-use Rattle.flow_graph.specs.declared.dep_nodes.Edge.{Edge}
+use Rattle.flow_graph.specs.declared.flow.NodeKind.TheVariants.{Entry, Call, RetVal, Arg}
 use Rattle.flow_graph.specs.declared.dep_nodes.NodeName.{NodeName}
 use Rattle.flow_graph.specs.declared.dep_nodes.Graph.{Graph}
 use Rattle.flow_graph.specs.declared.dep_nodes.Chain.{Chain}
 use Rattle.jo_prog.specs.declared.operations.Operation.{Operation}
 use Rattle.jo_prog.specs.declared.operations.Operation.TheVariants.{Constant, Load, Store, Add, Subtract, InvokeStatic, Return, Other}
-use Rattle.flow_graph.specs.Flow.{IsFlowNode, ArgumentPlace, FlowEdge, begins, skips, falls, leaves, calls, arrives, Path, stays, steps, node_at, node_of}
+use Rattle.flow_graph.specs.Flow.{IsFlowNode, FlowEdge, begins, skips, falls, leaves, calls, arrives, Path, stays, steps, node_at, node_of}
 use Rattle.flow_graph.specs.Graph.{Instance, Node, node, IsNode, of_flow, of_argument, of_kind, of_thrown, IsReached, label_at}
-use Rattle.flow_graph.specs.Chains.{Link, end_of}
-use Rattle.flow_graph.specs.GraphData.{graph_node, node_named, sites_of, resolved_of, edge, links_of, walk_end, IsWalk, WalksTo, IsDependenceGraph}
+use Rattle.flow_graph.specs.Chains.{end_of}
+use Rattle.flow_graph.specs.GraphData.{graph_node, node_named, resolved_of, links_of, walk_end, WalksTo, IsDependenceGraph}
 use Rattle.flow_graph.specs.Slices.{HasEdgesInside}
 use Rattle.flow_graph.proofs.ChainWalks.{walk_is_valid, walk_ends, chain_is_walk}
 use Rattle.low_run.specs.Verdict.{IsHidden, result, IsObserved, call, let_out, IllegalChain, Clean}
 use Rattle.low_run.specs.Sides.{label_resolved, is_kind_on, is_on, hidden_nodes, observed_nodes, IsForbiddenWalk}
 use Rattle.low_run.specs.declared.refusals.Side.TheVariants.{Hidden, Observed}
-use Rattle.low_run.proofs.Sides.{Passes, passes_at, number_in}
+use Rattle.low_run.proofs.Sides.{passes_at, number_in}
 
 -- ---- nodes of a graph
 

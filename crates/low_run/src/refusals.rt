@@ -6,11 +6,11 @@ ghost use Rattle.flow_graph.specs.Slices.{HasEdgesInside};
 ghost use Rattle.low_run.specs.Verdict.{CleanForAll, Reports};
 ghost use Rattle.low_run.specs.Sides.{label_resolved, is_on, places_from, hidden_nodes, observed_nodes, IsForbiddenWalk};
 
-use jo_ids::{LevelId, MethodId, NodeId};
 use chain_report::report;
 use flow_graph::dep_nodes::{Chain, Graph, NodeName};
 use flow_graph::flow::NodeKind;
 use flow_graph::slicer;
+use jo_ids::{LevelId, MethodId, NodeId};
 use jo_prog::labels::{self, Label, Labels};
 use jo_prog::program::Program;
 use std::alloc::{AllocError as Memory, Global};

@@ -1,4 +1,4 @@
-use Rattle.std.proofs.Common.{◌≡◌, ℕ, ◌<◌, ◌≤◌, List, length, sym, ap, arith}
+use Rattle.std.proofs.Common.{◌≡◌, ℕ, List, length, sym, ap, arith}
 use Rattle.jo_prog.proofs.Decoding.{next_of, operation_in-past, operation_in-long}
 use Rattle.jo_prog.proofs.program.operation_in.Goals as goal
 

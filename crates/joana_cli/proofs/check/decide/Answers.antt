@@ -1,4 +1,4 @@
-use Rattle.std.proofs.Common.{◌≡◌, ◌∙◌, ℕ, List, Option, Some, None, IfSome, IfNone, true, false, subst, sym, ap}
+use Rattle.std.proofs.Common.{◌≡◌, ◌∙◌, Option, Some, None, IfSome, IfNone, subst, sym}
 use Rattle.std.specs.Str.{IsUtf8}
 use Rattle.toml.specs.Data.{Members}
 use Rattle.toml.specs.Parse.{parse_document}
@@ -6,7 +6,7 @@ use Rattle.jo_prog.specs.declared.program.Program.{Program}
 use Rattle.jo_prog.specs.declared.labels.Labels.{Labels}
 use Rattle.jo_prog.specs.PlainCode.{IsWellLabelled}
 use Rattle.jo_policy.specs.PolicyFile.{policy_of}
-use Rattle.joana_cli.specs.Decision.{MakesProgram, Decides}
+use Rattle.joana_cli.specs.Decision.{MakesProgram}
 use Rattle.low_run.proofs.Verdicts.{true_not_false}
 use Rattle.joana_cli.proofs.Forms.{Labelled, no_program_form, no_policy_form, no_form, few_of_program, short_code, first_form, decided}
 use Rattle.joana_cli.proofs.check.decide.Goals as goal

@@ -1,4 +1,4 @@
-use Rattle.std.proofs.Common.{◌≡◌, ◌∙◌, inl, inr, ap, refl, sym, length}
+use Rattle.std.proofs.Common.{◌∙◌, inl, inr, sym}
 use Rattle.joana_cli.proofs.Forms.{read_at, lacks_native}
 use Rattle.low_run.proofs.Verdicts.{true_not_false}
 use Rattle.joana_cli.proofs.check.has_one_code.Goals as goal

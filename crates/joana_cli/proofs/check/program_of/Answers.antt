@@ -1,4 +1,4 @@
-use Rattle.std.proofs.Common.{◌≡◌, ◌∙◌, ℕ, ◌<◌, Option, Some, None, IfSome, IfNone, List, subst, sym, arith}
+use Rattle.std.proofs.Common.{Option, IfSome, IfNone, subst, sym}
 use Rattle.class_read.specs.ClassGrammar.{IsClass}
 use Rattle.class_read.specs.declared.class_pool.ClassFile.{ClassFile}
 use Rattle.joana_cli.proofs.Forms.{no_program, wrong_name, wrong_superclass, few_methods}

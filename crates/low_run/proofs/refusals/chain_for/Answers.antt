@@ -1,7 +1,6 @@
-use Rattle.std.proofs.Common.{◌≡◌, ◌∙◌, ℕ, ◌<◌, List, Contains, IfOk, IfNone, subst, arith}
-use Rattle.std.proofs.lemmas.Option.{slice_get_within}
+use Rattle.std.proofs.Common.{◌∙◌, ℕ, List, Contains, IfOk, IfNone, subst}
 use Rattle.flow_graph.specs.GraphData.{WalksTo}
-use Rattle.low_run.specs.Sides.{is_on, hidden_nodes, observed_nodes}
+use Rattle.low_run.specs.Sides.{is_on, observed_nodes}
 use Rattle.low_run.specs.declared.refusals.Side.TheVariants.{Observed}
 use Rattle.low_run.proofs.Sides.{places_inside}
 use Rattle.low_run.proofs.refusals.chain_for.Goals as goal

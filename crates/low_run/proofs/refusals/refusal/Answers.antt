@@ -1,5 +1,5 @@
-use Rattle.std.proofs.Common.{◌≡◌, ◌<◌, ◌≤◌, ℕ, List, Option, Some, None, IfSome, IfNone, Contains, length, slice_get, refl, sym, subst, ◌∙◌, arith}
-use Rattle.std.proofs.lemmas.Option.{slice_get_read, slice_get_within, same_Some}
+use Rattle.std.proofs.Common.{◌≡◌, ◌≤◌, ℕ, List, Option, Some, IfSome, IfNone, Contains, length, slice_get, refl, subst}
+use Rattle.std.proofs.lemmas.Option.{slice_get_read}
 use Rattle.flow_graph.specs.declared.dep_nodes.Chain.{Chain}
 use Rattle.flow_graph.specs.GraphData.{links_of, WalksTo}
 use Rattle.low_run.specs.Sides.{hidden_nodes, observed_nodes, IsForbiddenWalk}

@@ -4,7 +4,7 @@ use Rattle.flow_graph.specs.GraphData.{links_of}
 use Rattle.chain_report.specs.Report.{level_name, step_line}
 use Rattle.chain_report.specs.Nodes.{spelled_node}
 use Rattle.chain_report.proofs.ReportLines.{assembled}
-use Rattle.chain_report.proofs.report.report.Goals as goal
+use Rattle.chain_report.proofs.chains.report.Goals as goal
 
 -- the pieces in their order are the lines of the report
 pub returns : goal.returns

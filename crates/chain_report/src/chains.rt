@@ -7,11 +7,11 @@ ghost use Rattle.chain_report.specs.Report.{chain_text, level_name, spelled_word
 ghost use Rattle.chain_report.specs.Nodes.{spelled_node};
 
 use crate::nodes::push_node;
-use jo_text::push_escaped;
-use jo_ids::{LevelId, NodeId};
 use flow_graph::dep_nodes::{Chain, EdgeKind, Graph, NodeName, Step, Word};
+use jo_ids::{LevelId, NodeId};
 use jo_prog::labels::Labels;
 use jo_prog::program::Program;
+use jo_text::push_escaped;
 use std::alloc::{AllocError as Memory, Global};
 
 fn push_word(out: &mut Vec<u8>, kind: EdgeKind) -> Result<(), Memory>

@@ -2,7 +2,7 @@ use Rattle.std.proofs.Common.{◌≡◌, ◌++◌, drop}
 use Rattle.std.specs.List.{flat_map}
 use Rattle.flow_graph.specs.GraphData.{links_of}
 use Rattle.chain_report.specs.Report.{step_line}
-use Rattle.chain_report.proofs.report.push_steps.Given as goal
+use Rattle.chain_report.proofs.chains.push_steps.Given as goal
 
 -- the lines so far and those of the steps that are left are those of all
 abbrev pub invariant-loop-step : goal.invariant-loop-step
