@@ -1,0 +1,2 @@
+pub mod Many
+mod PoolEntries

@@ -15,12 +15,7 @@ use jo_text::{Name, is_mutf8};
 use std::alloc::Global;
 
 #[tactic(auto, unfolding(crate::specs::Pool::read_utf8))]
-fn utf8_entry(
-    alloc: Global,
-    size: u32,
-    place: u32,
-    rest: &[u8],
-) -> Result<(PoolEntry, &[u8]), Stop>
+fn utf8_entry(alloc: Global, size: u32, place: u32, rest: &[u8]) -> Result<(PoolEntry, &[u8]), Stop>
     ensures { Gives (λ x. (x.0, x.1.now)) result (read_utf8 size place rest.now) }
 {
     let (count, rest) = number_of_two(size, rest)?;
