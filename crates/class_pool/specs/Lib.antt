@@ -4,3 +4,4 @@ pub mod Code
 pub mod ClassOrder
 pub mod ClassGrammar
 pub mod Outcomes
+pub mod Stops

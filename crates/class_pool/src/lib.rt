@@ -13,4 +13,4 @@ mod references;
 pub use classes::{ClassFile, CodeInfo, FieldInfo, MemberKind, MethodInfo, RowInfo};
 pub use entries::{Pool, PoolEntry, class_name_at, desc_at, entry_at, utf8_at};
 pub use faults::{ClassCode, ClassFault, Cut, Stop};
-pub use reader::read_pool_from;
+pub use reader::{read_pool, read_pool_from};
