@@ -5,3 +5,4 @@ pub mod ClassOrder
 pub mod ClassGrammar
 pub mod Outcomes
 pub mod Stops
+pub mod Writing
