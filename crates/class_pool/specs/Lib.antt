@@ -4,3 +4,5 @@ pub mod Code
 pub mod ClassOrder
 pub mod ClassGrammar
 pub mod Outcomes
+pub mod Stops
+pub mod Writing

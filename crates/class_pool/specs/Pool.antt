@@ -198,3 +198,9 @@ read_pool_from size rest = do
 -- the pool of a file, which begins at byte 8, and what follows it
 abbrev pub pool_of : List ℕ → Result (List PoolEntry × List ℕ) ClassFault
 pool_of file = read_pool_from (length file) (drop 8 file)
+
+-- that pool, and the place of what follows it
+abbrev pub pool_and_place : List ℕ → Result (List PoolEntry × ℕ) ClassFault
+pool_and_place file = do
+  read ← pool_of file
+  Ok (read.0, place_of (length file) read.1)

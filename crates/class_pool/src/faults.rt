@@ -74,3 +74,20 @@ impl<T: Drop> From<(T, AllocError)> for Stop {
         Stop::Memory
     }
 }
+
+impl From<Stop> for ClassFault {
+    ghost use Rattle.std.specs.Prelude.{◌≡◌};
+    ghost use Rattle.class_pool.specs.Stops.{fault_of};
+
+    ghost from_gives = { λ stop fault. fault ≡ fault_of stop };
+
+    fn from(stop: Stop) -> ClassFault {
+        match stop {
+            Stop::Fault(fault) => fault,
+            Stop::Memory => ClassFault {
+                code: ClassCode::Memory,
+                place: 0,
+            },
+        }
+    }
+}

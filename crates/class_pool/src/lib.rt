@@ -9,8 +9,10 @@ pub mod items;
 pub mod laws;
 mod reader;
 mod references;
+mod writer;
 
 pub use classes::{ClassFile, CodeInfo, FieldInfo, MemberKind, MethodInfo, RowInfo};
 pub use entries::{Pool, PoolEntry, class_name_at, desc_at, entry_at, utf8_at};
 pub use faults::{ClassCode, ClassFault, Cut, Stop};
-pub use reader::read_pool_from;
+pub use reader::{read_pool, read_pool_from};
+pub use writer::write_pool;

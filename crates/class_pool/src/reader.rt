@@ -1,13 +1,13 @@
 //! Reads the constant pool.
-ghost use Rattle.std.specs.Prelude.{◌≡◌, None};
-ghost use Rattle.class_pool.specs.Pool.{read_utf8, read_indices, read_tagged, read_handle, read_entry, read_entries, owed_by, read_pool_from as pool_from};
-ghost use Rattle.class_pool.specs.Outcomes.{Gives};
+ghost use Rattle.std.specs.Prelude.{◌≡◌, ◌<◌, ◌^◌, None, length};
+ghost use Rattle.class_pool.specs.Pool.{read_utf8, read_indices, read_tagged, read_handle, read_entry, read_entries, owed_by, read_pool_from as pool_from, pool_and_place};
+ghost use Rattle.class_pool.specs.Outcomes.{Gives, Answers};
 
 use crate::entries::{Pool, PoolEntry};
-use crate::faults::{ClassCode, Stop};
+use crate::faults::{ClassCode, ClassFault, Stop};
 use crate::items::{
-    bytes_of, fault_at, number_of_eight, number_of_four, number_of_one, number_of_two, place_of,
-    two_numbers,
+    behind, bytes_of, fault_at, number_of_eight, number_of_four, number_of_one, number_of_two,
+    place_of, two_numbers,
 };
 use crate::references::reference_fault;
 use jo_ids::List;
@@ -15,12 +15,7 @@ use jo_text::{Name, is_mutf8};
 use std::alloc::Global;
 
 #[tactic(auto, unfolding(crate::specs::Pool::read_utf8))]
-fn utf8_entry(
-    alloc: Global,
-    size: u32,
-    place: u32,
-    rest: &[u8],
-) -> Result<(PoolEntry, &[u8]), Stop>
+fn utf8_entry(alloc: Global, size: u32, place: u32, rest: &[u8]) -> Result<(PoolEntry, &[u8]), Stop>
     ensures { Gives (λ x. (x.0, x.1.now)) result (read_utf8 size place rest.now) }
 {
     let (count, rest) = number_of_two(size, rest)?;
@@ -173,4 +168,16 @@ pub fn read_pool_from(alloc: Global, size: u32, rest: &[u8]) -> Result<(Pool, &[
         Some(fault) => Err(Stop::Fault(fault)),
         None => Ok((pool, end)),
     }
+}
+
+/// The pool of a file, and the first place after it. The pool, with its count, begins at byte 8, and nothing else of the
+/// file is read.
+#[tactic(auto, using(crate::proofs::PoolStops::stop_answers))]
+pub fn read_pool(alloc: Global, bytes: &[u8]) -> Result<(Pool, u32), ClassFault>
+    requires { length bytes.now < 2 ^ 31 }
+    ensures { Answers (λ x. x) result (pool_and_place bytes.now) }
+{
+    let size = bytes.len() as u32;
+    let (pool, rest) = read_pool_from(alloc, size, behind(bytes, 8))?;
+    Ok((pool, place_of(size, rest)))
 }

@@ -6,7 +6,7 @@ ghost use Rattle.class_pool.specs.declared.faults.ClassCode.TheVariants.{PoolInd
 
 use crate::entries::{PoolEntry, desc_at, entry_at, utf8_at};
 use crate::faults::{ClassCode, ClassFault};
-use crate::items::place_of;
+use crate::items::{behind, place_of};
 use jo_text::{is_class_or_array, is_field_desc, is_member_name, is_method_desc};
 
 /// The code where not all indices that an entry names fit, or else where not all texts do.
@@ -134,6 +134,7 @@ fn entry_size(entry: &PoolEntry) -> usize
 }
 
 /// The first entry that refers to something wrong. The rest of the file begins with the pool's entries.
+#[tactic(auto, unfolding(crate::specs::Pool::reference_fault))]
 pub fn reference_fault(size: u32, pool: &[PoolEntry], rest: &[u8]) -> Option<ClassFault>
     ensures { result ≡ first_fault size pool.now rest.now pool.now }
 {
@@ -145,7 +146,7 @@ pub fn reference_fault(size: u32, pool: &[PoolEntry], rest: &[u8]) -> Option<Cla
                 place: place_of(size, rest),
             });
         }
-        rest = &rest[entry_size(entry).min(rest.len())..];
+        rest = behind(rest, entry_size(entry));
     }
     None
 }
