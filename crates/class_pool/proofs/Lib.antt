@@ -1,1 +1,2 @@
 pub mod GrammarNumbers
+pub mod GrammarMany
