@@ -1,2 +1,3 @@
 pub mod GrammarNumbers
 pub mod GrammarMany
+pub mod GrammarPool
