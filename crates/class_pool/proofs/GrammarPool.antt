@@ -1,5 +1,5 @@
 -- The constant pool: what is read is spelled so and refers well, and what is spelled so and refers well is read.
-use Rattle.std.proofs.Common.{◌≡◌, ◌⊎◌, ℕ, zero, suc, ◌+◌, ◌-◌, ◌*◌, ◌^◌, ◌<◌, ◌≤◌, Bool, true, false, ◌&&◌, ◌||◌, ◌==◌, not, if◌then◌else◌, ℤ, List, [], ◌∷◌, ◌++◌, length, drop, Option, Some, None, Result, Ok, Err, refl, sym, ap, subst, ◌∙◌, append_assoc, inl, inr, arith}
+use Rattle.std.proofs.Common.{◌≡◌, ◌⊎◌, ◌↔◌, ℕ, zero, suc, ◌+◌, ◌-◌, ◌*◌, ◌^◌, ◌<◌, ◌≤◌, Bool, true, false, ◌&&◌, ◌||◌, ◌==◌, not, if◌then◌else◌, ℤ, List, [], ◌∷◌, ◌++◌, length, drop, Option, Some, None, Result, Ok, Err, refl, sym, ap, subst, ◌∙◌, append_assoc, inl, inr, arith}
 use Rattle.std.specs.Prelude.{IsSomeAnd}
 use Rattle.std.specs.Bool.{Decides}
 use Rattle.std.specs.Int.{w32, cast_unsigned}
@@ -7,21 +7,23 @@ use Rattle.std.specs.Int.RustNames.{FitsSigned}
 use Rattle.std.specs.List.{AllByRecursion}
 use Rattle.std.proofs.Math.Facts.{Fits-of_z}
 use Rattle.std.proofs.Math.Nat.{mod-eq_of_lt}
-use Rattle.std.proofs.lemmas.Bool.{eqb-true}
+use Rattle.std.proofs.lemmas.Bool.{eqb-true, true≢false, and_parts, and_from}
 use Rattle.std.proofs.lemmas.Bool.Decides.{nat_tests, Decides-and, Decides-or, Decides-like}
 use Rattle.byteorder.specs.Endian.{big_bytes, big_number, twos_complement}
 use Rattle.jo_insn.specs.declared.instructions.InsnFault.{InsnFault}
 use Rattle.jo_insn.specs.Instructions
 use Rattle.jo_insn.specs.Instructions.{signed_in}
 use Rattle.jo_insn.proofs.Numbers.{AreBytes, number_in_bytes, signed_in_bytes, signed_read}
+use Rattle.jo_text.specs.Descriptors.{IsMemberName, IsFieldDesc, IsMethodDesc, IsClassOrArray}
 use Rattle.jo_text.specs.Mutf8.{IsMutf8}
 use Rattle.jo_text.specs.Tests.{is_mutf8, is_member_name, is_class_or_array, is_field_desc, is_method_desc}
 use Rattle.jo_text.proofs.TestLaws.{field_decided, method_decided, member_decided, class_or_array_decided, mutf8_decided}
 use Rattle.class_pool.specs.declared.entries.PoolEntry.{PoolEntry}
 use Rattle.class_pool.specs.declared.entries.PoolEntry.TheVariants.{Second, Utf8, Integer, Float, Long, Double, Class, Text, FieldRef, MethodRef, InterfaceMethodRef, NameAndType, MethodHandle, MethodType, InvokeDynamic}
+use Rattle.class_pool.specs.declared.faults.ClassCode.{ClassCode}
 use Rattle.class_pool.specs.declared.faults.ClassFault.{ClassFault}
-use Rattle.class_pool.specs.Items.{◌>>=◌, place_of, passing, number, bytes_of, two_numbers}
-use Rattle.class_pool.specs.Pool.{entry_at, utf8_at, desc_at, is_double, read_utf8, read_one, read_pair, read_handle, read_indices, read_tagged, read_entry, owed_by, read_entries, is_text, is_text_that, is_class, questions, first_failing, reference_fault, unless_fault, read_pool_from}
+use Rattle.class_pool.specs.Items.{◌>>=◌, place_of, fault, passing, number, bytes_of, two_numbers}
+use Rattle.class_pool.specs.Pool.{entry_at, utf8_at, desc_of, desc_at, is_double, read_utf8, read_one, read_pair, read_handle, read_indices, read_tagged, read_entry, owed_by, read_entries, is_text, is_text_that, is_class, is_name_and_type, questions, member_questions, first_failing, entry_size, reference_fault, unless_fault, read_pool_from}
 use Rattle.class_pool.specs.ClassGrammar.{u1, u2, u4, SpellsEntry, SpellsEntries, no_entry, single, twofold, IsClassEntry, RefersWell}
 use Rattle.class_pool.proofs.GrammarNumbers.{Takes, IsReadAs, ends, fails, then_read, when, either, joined, split, step, pass, reads_more, SpellsNumber, number_read, number_again, SpellsTwo, two_read, two_again, SpellsBytes, bytes_read, bytes_again}
 
@@ -222,3 +224,116 @@ entries_again size (single entry more first others plain spelled behind) rest le
 entries_again size (twofold entry more first others double spelled behind) rest left parts =
     step _ (entry_again size entry rest first (others ++ left) (split first others left parts refl) spelled)
     (step _ (ap (λ (b : Bool). read_entries size (if b then Some (place_of size rest) else None) (suc (length more)) (others ++ left)) double ∙ step _ (entries_again size behind (others ++ left) left refl) refl) refl)
+
+-- ---- what an entry refers to
+
+pub text_decided : {test : List ℕ → Bool} {P : List ℕ → Type 0} → ((text : List ℕ) → Decides (test text) (P text)) → (o : Option (List ℕ)) → Decides (is_text_that test o) (IsSomeAnd o P)
+text_decided each None = (λ e. absurd (cc), λ h. absurd h)
+text_decided each (Some text) = each text
+
+any_text : (text : List ℕ) → Decides true (Unit {0})
+any_text text = (λ _. tt, λ _. refl)
+
+pub there_decided : (o : Option (List ℕ)) → Decides (is_text o) (IsSomeAnd o (λ _. Unit {0}))
+there_decided o = text_decided any_text o
+
+there : (P : List ℕ → Type 0) (o : Option (List ℕ)) → IsSomeAnd o P → is_text o ≡ true
+there P None h = absurd h
+there P (Some text) h = refl
+
+class_decided : (o : Option PoolEntry) → Decides (is_class o) (IsClassEntry o)
+class_decided None = (λ e. absurd (cc), λ h. absurd h)
+class_decided (Some (Class name)) = (λ e. tt, λ h. refl)
+class_decided (Some _) = (λ e. absurd (cc), λ h. absurd h)
+
+named : (P : List ℕ → Type 0) (pool : List PoolEntry) (o : Option PoolEntry) → IsSomeAnd (desc_of pool o) P → is_name_and_type o ≡ true
+named P pool None h = absurd h
+named P pool (Some (NameAndType name desc)) h = refl
+named P pool (Some _) h = absurd h
+
+-- all of the questions pass exactly where P holds
+abbrev Passes : List (Bool × ClassCode) → Type 0 → Type 0
+Passes asked P = (first_failing asked ≡ None) ↔ P
+
+two_pass : {P : Type 0} (a b : Bool) (c d : ClassCode) → (a ≡ true → b ≡ true → P) → (P → (a ≡ true) × (b ≡ true)) → Passes ((a, c) ∷ (b, d) ∷ []) P
+two_pass true true c d holds asked = (λ _. holds refl refl, λ _. refl)
+two_pass true false c d holds asked = (λ e. absurd (cc), λ p. absurd (true≢false (sym (asked p).1)))
+two_pass false b c d holds asked = (λ e. absurd (cc), λ p. absurd (true≢false (sym (asked p).0)))
+
+one_passes : {P : Type 0} (a : Bool) (c : ClassCode) → Decides a P → Passes ((a, c) ∷ []) P
+one_passes true c decided = (λ _. decided.0 refl, λ _. refl)
+one_passes false c decided = (λ e. absurd (cc), λ p. absurd (true≢false (sym (decided.1 p))))
+
+type_decided : (text : List ℕ) → Decides (is_field_desc text || is_method_desc text) (IsFieldDesc text ⊎ IsMethodDesc text)
+type_decided text = Decides-or _ _ (field_decided text) (method_decided text)
+
+module _ (pool : List PoolEntry) where
+  class_passes : (name : ℕ) → Passes (questions pool (Class name)) (RefersWell pool (Class name))
+  class_passes name = let text = text_decided class_or_array_decided (utf8_at pool name) in two_pass _ _ _ _ (λ _ e. text.0 e) (λ h. (there IsClassOrArray _ h, text.1 h))
+
+  member_passes : (test : List ℕ → Bool) (P : List ℕ → Type 0) → ((text : List ℕ) → Decides (test text) (P text)) → (class type : ℕ) → Passes (member_questions pool test class type) (IsClassEntry (entry_at pool class) × IsSomeAnd (desc_at pool type) P)
+  member_passes test P each class type =
+      let desc = text_decided each (desc_at pool type) in
+      let of_class = class_decided (entry_at pool class) in
+      two_pass _ _ _ _ (λ e f. (of_class.0 (and_parts _ _ e).0, desc.0 f)) (λ h. (and_from _ _ (of_class.1 h.0) (named P pool (entry_at pool type) h.1), desc.1 h.1))
+
+  name_passes : (name desc : ℕ) → Passes (questions pool (NameAndType name desc)) (RefersWell pool (NameAndType name desc))
+  name_passes name desc =
+      let both = Decides-and _ _ (text_decided member_decided (utf8_at pool name)) (text_decided type_decided (utf8_at pool desc)) in
+      two_pass _ _ _ _ (λ _ e. both.0 e) (λ h. (and_from _ _ (there IsMemberName _ h.0) (there (λ text. IsFieldDesc text ⊎ IsMethodDesc text) _ h.1), both.1 h))
+
+  entry_passes : (entry : PoolEntry) → Passes (questions pool entry) (RefersWell pool entry)
+  entry_passes (Class name) = class_passes name
+  entry_passes (Text text) = one_passes _ _ (there_decided (utf8_at pool text))
+  entry_passes (FieldRef class type) = member_passes is_field_desc IsFieldDesc field_decided class type
+  entry_passes (MethodRef class type) = member_passes is_method_desc IsMethodDesc method_decided class type
+  entry_passes (InterfaceMethodRef class type) = member_passes is_method_desc IsMethodDesc method_decided class type
+  entry_passes (NameAndType name desc) = name_passes name desc
+  entry_passes _ = (λ _. tt, λ _. refl)
+
+  references_refer : (size : ℕ) (rest : List ℕ) (entries : List PoolEntry) → reference_fault size pool rest entries ≡ None → AllByRecursion (RefersWell pool) entries
+  unfolding reference_fault
+  references_refer size rest [] is = tt
+  references_refer size rest (entry ∷ more) is = by (first_failing (questions pool entry)) refl (λ passed. references_refer size (drop (entry_size entry) rest) more (rw passed at is))
+    where
+      by : (o : Option ClassCode) → first_failing (questions pool entry) ≡ o → (first_failing (questions pool entry) ≡ None → AllByRecursion (RefersWell pool) more) → AllByRecursion (RefersWell pool) (entry ∷ more)
+      by None passed later = ((entry_passes entry).0 passed, later passed)
+      by (Some code) failed later = let wrong : Some (fault code (place_of size rest)) ≡ None = rw failed at is in absurd (cc)
+
+  references_pass : (size : ℕ) (rest : List ℕ) (entries : List PoolEntry) → AllByRecursion (RefersWell pool) entries → reference_fault size pool rest entries ≡ None
+  unfolding reference_fault
+  references_pass size rest [] all = refl
+  references_pass size rest (entry ∷ more) (refers, others) = rw ((entry_passes entry).1 refers) (references_pass size (drop (entry_size entry) rest) more others)
+
+-- ---- the pool
+
+abbrev pub SpellsPool : List PoolEntry → List ℕ → Type 0
+SpellsPool pool text = (entries : List ℕ) × (text ≡ u2 (length pool + 1) ++ entries) × (length pool + 1 < 2 ^ 16) × SpellsEntries pool entries × AllByRecursion (RefersWell pool) pool
+
+unless_read : {X : Type 0} {Spells : X → List ℕ → Type 0} {rest : List ℕ} (o : Option ClassFault) {next : Result (X × List ℕ) ClassFault} → (o ≡ None → IsReadAs Spells rest next) → IsReadAs Spells rest (unless_fault o next)
+unless_read None goes = goes refl
+unless_read (Some f) goes = fails
+
+pub pool_read : (size : ℕ) (rest : List ℕ) → AreBytes rest → IsReadAs SpellsPool rest (read_pool_from size rest)
+unfolding read_pool_from
+pool_read size rest bytes =
+    then_read _ (number_read size 2 rest bytes) (λ count middle t.
+    then_read _ (when (not (count == 0)) _ _ (λ some. reads_more (entries_read size None (count - 1) middle t.bytes) (counted count some))) (λ pool left u.
+    unless_read (reference_fault size pool middle pool) (λ refer. ends (record {
+      text = t.text ++ u.text;
+      parts = joined _ _ _ t.parts u.parts;
+      spells = (u.text, cc (t.spells.0, u.spells.1), subst (λ (n : ℕ). n < 2 ^ 16) (sym u.spells.1) t.spells.1, u.spells.0, references_refer pool size middle pool refer);
+      bytes = u.bytes;
+    }))))
+  where
+    counted : (count : ℕ) → not (count == 0) ≡ true → (pool : List PoolEntry) (text : List ℕ) → SpellsOwedMany None (count - 1) pool text → SpellsEntries pool text × (length pool + 1 ≡ count)
+    counted count some pool text h = (h.0, grind (arith, nat_tests, h.1))
+
+pub pool_again : (size : ℕ) (pool : List PoolEntry) (rest text left : List ℕ) → rest ≡ text ++ left → SpellsPool pool text → read_pool_from size rest ≡ Ok (pool, left)
+unfolding read_pool_from
+pool_again size pool rest text left parts (entries, both, short, spelled, refer) =
+    let some : not (length pool + 1 == 0) ≡ true = grind (arith, nat_tests) in
+    let count : length pool + 1 - 1 ≡ length pool = omega arith in
+    step _ (number_again size 2 (length pool + 1) (entries ++ left) (split (u2 (length pool + 1)) entries left parts both) short)
+    (step _ (pass _ _ some (ap (λ (n : ℕ). read_entries size None n (entries ++ left)) count ∙ entries_again size spelled (entries ++ left) left refl))
+    (ap (λ (o : Option ClassFault). unless_fault o (Ok (pool, left))) (references_pass pool size (entries ++ left) pool refer)))
