@@ -237,7 +237,7 @@ any_text text = (λ _. tt, λ _. refl)
 pub there_decided : (o : Option (List ℕ)) → Decides (is_text o) (IsSomeAnd o (λ _. Unit {0}))
 there_decided o = text_decided any_text o
 
-there : (P : List ℕ → Type 0) (o : Option (List ℕ)) → IsSomeAnd o P → is_text o ≡ true
+pub there : (P : List ℕ → Type 0) (o : Option (List ℕ)) → IsSomeAnd o P → is_text o ≡ true
 there P None h = absurd h
 there P (Some text) h = refl
 

@@ -1,3 +1,4 @@
 pub mod GrammarNumbers
 pub mod GrammarMany
 pub mod GrammarPool
+pub mod GrammarParts
