@@ -36,6 +36,11 @@ ends {Spells = Spells} {rest = rest} t = yields {P = λ (r : _). Takes Spells re
 pub fails : {A : Type 0} {P : A → Type 0} {f : ClassFault} → Yields P (Err f)
 fails = record { takes = λ a is. absurd (cc) }
 
+-- by cases of a step
+pub by_answer : {A P : Type 0} (read : Result A ClassFault) → ((f : ClassFault) → read ≡ Err f → P) → ((a : A) → read ≡ Ok a → P) → P
+by_answer (Err f) failed goes = failed f refl
+by_answer (Ok a) failed goes = goes a refl
+
 -- a step, and what follows it
 pub after : {A B : Type 0} {P : B → Type 0} (read : Result A ClassFault) (more : A → Result B ClassFault) → ((a : A) → read ≡ Ok a → Yields P (more a)) → Yields P (read >>= more)
 after (Err f) more goes = fails

@@ -2,9 +2,10 @@
 use Rattle.std.proofs.Common.{◌≡◌, ◌⊎◌, ℕ, zero, suc, ◌+◌, ◌-◌, ◌*◌, ◌^◌, ◌<◌, ◌≤◌, Bool, true, false, ◌&&◌, ◌==◌, not, if◌then◌else◌, List, [], ◌∷◌, ◌++◌, length, drop, map, Option, Some, None, Result, Ok, Err, refl, sym, ap, subst, ◌∙◌, append_assoc, inl, inr, arith}
 use Rattle.std.specs.Prelude.{IsSomeAnd, codes}
 use Rattle.std.specs.Bool.{Decides}
-use Rattle.std.proofs.lemmas.Bool.{eqb-true, true≢false, and_parts, and_from}
-use Rattle.std.proofs.lemmas.Bool.Decides.{nat_tests, Decides-eqb}
+use Rattle.std.proofs.lemmas.Bool.{eqb-true, false_from_ne_true, true≢false, and_parts, and_from}
+use Rattle.std.proofs.lemmas.Bool.Decides.{nat_tests, Decides-eqb, Decides-and, Decides-like, not_from_Decides}
 use Rattle.std.proofs.lemmas.List.{length-map}
+use Rattle.std.proofs.lemmas.Option.{same_Some}
 use Rattle.std.proofs.lemmas.Slice.Eq.{bytes_eq-Decides}
 use Rattle.jo_insn.proofs.Numbers.{AreBytes}
 use Rattle.jo_text.specs.Descriptors.{IsMemberName, IsFieldDesc, IsMethodDesc}
@@ -18,9 +19,10 @@ use Rattle.class_pool.specs.declared.faults.ClassFault.{ClassFault}
 use Rattle.class_pool.specs.Items.{◌>>=◌, place_of, passing, number, bytes_of, many}
 use Rattle.class_pool.specs.Pool.{entry_at, utf8_at, class_name_at, is_text, is_text_that}
 use Rattle.class_pool.specs.Code.{dims_of, has_dims_that, dims_at}
-use Rattle.class_pool.specs.ClassOrder.{has_flag, static_flag, class_index, text_index, fits_kind, read_head, skip_attribute, skip_attributes, is_named, fits_constant, constant_value, field_attribute, field_attributes, read_field}
-use Rattle.class_pool.specs.ClassGrammar.{u2, u4, SpellsEach, SpellsCounted, Attribute, SpellsAttribute, SpellsAttributes, AreAttributes, IsConstantValue, HasConstant, no_constant, not_constant, SpellsField, IsClassIndex, SpellsClassIndex}
-use Rattle.class_pool.proofs.GrammarNumbers.{Takes, Yields, IsReadAs, yields, after, ends, fails, then_read, when, either, joined, split, step, pass, SpellsNumber, number_read, number_again, SpellsBytes, bytes_read, bytes_again}
+use Rattle.class_pool.specs.ClassOrder
+use Rattle.class_pool.specs.ClassOrder.{has_flag, static_flag, class_index, text_index, fits_kind, read_head, skip_attribute, skip_attributes, is_named, fits_constant, field_attribute, field_attributes, read_field}
+use Rattle.class_pool.specs.ClassGrammar.{u2, u4, SpellsEach, SpellsCounted, Attribute, SpellsAttribute, SpellsAttributes, AreAttributes, IsConstantValue, HasConstant, no_constant, not_constant, constant_value, SpellsField, IsClassIndex, SpellsClassIndex}
+use Rattle.class_pool.proofs.GrammarNumbers.{Takes, Yields, IsReadAs, yields, by_answer, ends, fails, then_read, when, either, joined, split, step, pass, SpellsNumber, number_read, number_again, SpellsBytes, bytes_read, bytes_again}
 use Rattle.class_pool.proofs.GrammarMany.{EachIsSpelled, EachIsRead, SpellsMany, many_read, many_again}
 use Rattle.class_pool.proofs.GrammarPool.{text_decided, there, there_decided}
 
@@ -195,3 +197,139 @@ module _ (pool : List PoolEntry) where
       step _ (number_again size 2 (length attributes) (items ++ left) (split (u2 (length attributes)) items left parts both) few)
       (step _ (ap (λ (n : ℕ). many (skip_attribute size pool) n (items ++ left)) (sym (length-map attributes (λ _. tt)))
           ∙ many_again (skip_attribute size pool) SpellsSkipped (skip_again size) units (items ++ left) items left refl (skipped attributes items spelled)) refl)
+
+  -- ---- fields
+
+  named_decided : (name : List ℕ) (text : Option (List ℕ)) → Decides (is_named name text) (text ≡ Some name)
+  named_decided name None = (λ e. absurd (cc), λ h. absurd (cc))
+  named_decided name (Some text) =
+      Decides-like _ (λ (same : name ≡ text). ap Some (sym same)) (λ (is : Some text ≡ Some name). sym (same_Some text name is)) (bytes_eq-Decides name text)
+
+  module _ (size : ℕ) (head : ℕ × ℕ × ℕ) where
+    abbrev static : Bool
+    static = has_flag static_flag head.0
+
+    abbrev IsConstant : ℕ → Type 0
+    IsConstant name = (static ≡ true) × (utf8_at pool name ≡ Some (codes "ConstantValue"))
+
+    -- what an attribute makes known
+    abbrev Tells : Option ℕ → Attribute → Option ℕ → Type 0
+    Tells known attribute told = ((told ≡ known) × (IsConstant attribute.name → ⊥)) ⊎ (IsConstant attribute.name × (known ≡ None) × ((constant : ℕ) × (told ≡ Some constant) × IsConstantValue pool head.2 attribute constant))
+
+    abbrev SpellsTold : Option ℕ → Option ℕ → List ℕ → Type 0
+    SpellsTold known told text = (attribute : Attribute) × SpellsAttribute pool attribute text × Tells known attribute told
+
+    -- the content of an attribute with that name which is a ConstantValue, where none is known yet
+    abbrev SpellsConstant : ℕ → Option ℕ → ℕ → Option ℕ → List ℕ → Type 0
+    SpellsConstant name known count told text = (length text ≡ count) × (known ≡ None) × ((constant : ℕ) × (told ≡ Some constant) × IsConstantValue pool head.2 (record { name = name; content = text }) constant)
+
+    fits_decided : (constant : ℕ) → Decides (is_text_that (λ text. fits_constant text (entry_at pool constant)) (utf8_at pool head.2)) (IsSomeAnd (utf8_at pool head.2) (λ text. fits_constant text (entry_at pool constant) ≡ true))
+    fits_decided constant = text_decided (λ text. (λ e. e, λ e. e)) (utf8_at pool head.2)
+
+    constant_read : (name : ℕ) (known : Option ℕ) (place count : ℕ) → EachIsSpelled (ClassOrder.constant_value size pool head.2 known place count) (SpellsConstant name known count)
+    constant_read name (Some index) place count rest bytes = when (count == 2 && false) _ _ (λ is. absurd (true≢false (sym (and_parts _ _ is).1)))
+    constant_read name None place count rest bytes = when (count == 2 && true) _ _ (λ is. by_answer (number size 2 rest) (λ f failed. rw failed fails) (λ index given.
+        let t = (number_read size 2 rest bytes).takes index given in
+        rw given (when (is_text_that (λ text. fits_constant text (entry_at pool index.0)) (utf8_at pool head.2)) _ _ (λ fits. ends (record {
+          text = t.text;
+          parts = t.parts;
+          spells = (ap length t.spells.0 ∙ sym (eqb-true _ _ (and_parts _ _ is).0), refl, (index.0, refl, (t.spells.0, t.spells.1, (fits_decided index.0).0 fits)));
+          bytes = t.bytes;
+        })))))
+
+    constant_again : (place constant : ℕ) (attribute : Attribute) (left : List ℕ) → IsConstantValue pool head.2 attribute constant
+        → ClassOrder.constant_value size pool head.2 None place (length attribute.content) (attribute.content ++ left) ≡ Ok (Some constant, left)
+    constant_again place constant attribute left (is, small, fits) =
+        let two : (length attribute.content == 2 && true) ≡ true = rw is refl in
+        pass _ _ two (rw (number_again size 2 constant left (ap (λ (t : List ℕ). t ++ left) is) small) (pass _ _ ((fits_decided constant).1 fits) refl))
+
+    is_constant : (name : ℕ) → Decides (static && is_named (codes "ConstantValue") (utf8_at pool name)) (IsConstant name)
+    is_constant name = Decides-and _ _ (λ e. e, λ e. e) (named_decided (codes "ConstantValue") (utf8_at pool name))
+
+    field_attribute_read : (known : Option ℕ) → EachIsSpelled (field_attribute size pool head known) (SpellsTold known)
+    unfolding field_attribute
+    field_attribute_read known rest bytes = attribute_head_read size _ rest bytes (λ name count middle left t.
+        either (static && is_named (codes "ConstantValue") (utf8_at pool name))
+        (λ is. record { takes = λ r given. let u = (constant_read name known (place_of size middle) count left t.bytes).takes r given in record {
+          text = t.text ++ u.text;
+          parts = joined _ _ _ t.parts u.parts;
+          spells = (record { name = name; content = u.text }, attribute_of t.spells (refl, u.spells.0), inr ((is_constant name).0 is, u.spells.1, u.spells.2));
+          bytes = u.bytes;
+        } })
+        (λ other. by_answer (bytes_of size count left) (λ f failed. rw failed fails) (λ content given.
+        let u = (bytes_read size count left t.bytes).takes content given in
+        rw given (ends (record {
+          text = t.text ++ u.text;
+          parts = joined _ _ _ t.parts u.parts;
+          spells = (record { name = name; content = content.0 }, attribute_of t.spells u.spells, inl (refl, not_from_Decides _ (is_constant name) other));
+          bytes = u.bytes;
+        })))))
+
+    field_attribute_again : (known : Option ℕ) → EachIsRead (field_attribute size pool head known) (SpellsTold known)
+    unfolding field_attribute
+    field_attribute_again known told rest text left parts (attribute, spelled, inl (same, other)) =
+        attribute_again size _ attribute left parts spelled
+        (rw (false_from_ne_true _ (λ is. other ((is_constant attribute.name).0 is)), bytes_again size attribute.content left refl) (ap (λ (o : Option ℕ). Ok (o, left)) (sym same)))
+    field_attribute_again known told rest text left parts (attribute, spelled, inr (is, fresh, (constant, same, value))) =
+        attribute_again size _ attribute left parts spelled
+        (rw ((is_constant attribute.name).1 is, fresh) (constant_again _ constant attribute left value ∙ ap (λ (o : Option ℕ). Ok (o, left)) (sym same)))
+
+    -- the constant that was known, or else the one that is told
+    abbrev Joins : Option ℕ → Option ℕ → Option ℕ → Type 0
+    Joins None constant told = told ≡ constant
+    Joins (Some index) constant told = (constant ≡ None) × (told ≡ Some index)
+
+    joins_none : (known told : Option ℕ) → Joins known None told → told ≡ known
+    joins_none None told is = is
+    joins_none (Some index) told (none, is) = is
+
+    joins_some : (known told : Option ℕ) (constant : ℕ) → Joins known (Some constant) told → (known ≡ None) × (told ≡ Some constant)
+    joins_some None told constant is = (refl, is)
+    joins_some (Some index) told constant (none, is) = absurd (cc)
+
+    abbrev Constant : List Attribute → Option ℕ → Type 0
+    Constant attributes constant = HasConstant pool static head.2 attributes constant
+
+    abbrev FindsConstant : Option ℕ → List Attribute → Option ℕ → Type 0
+    FindsConstant known attributes told = (constant : Option ℕ) × Constant attributes constant × Joins known constant told
+
+    one_more : (known next told : Option ℕ) (attribute : Attribute) (more : List Attribute) → Tells known attribute next → FindsConstant next more told → FindsConstant known (attribute ∷ more) told
+    one_more known next told attribute more (inl (same, other)) (constant, has, joins) =
+        (constant, not_constant attribute more constant (λ is named. other (is, named)) has, subst (λ (k : Option ℕ). Joins k constant told) same joins)
+    one_more known next told attribute more (inr (is, fresh, (index, same, value))) (constant, has, joins) =
+        let behind = subst (λ (k : Option ℕ). Joins k constant told) same joins in
+        (Some index, constant_value attribute more index is.0 is.1 value (subst (Constant more) behind.0 has), subst (λ (k : Option ℕ). Joins k (Some index) told) (sym fresh) behind.1)
+
+    abbrev SpellsConstants : Option ℕ → ℕ → Option ℕ → List ℕ → Type 0
+    SpellsConstants known n told text = (attributes : List Attribute) × SpellsEach (SpellsAttribute pool) attributes text × (length attributes ≡ n) × FindsConstant known attributes told
+
+    field_attributes_read : (n : ℕ) (known : Option ℕ) → EachIsSpelled (field_attributes size pool head n known) (SpellsConstants known n)
+    unfolding field_attributes
+    field_attributes_read zero known rest bytes = ends (record { text = []; parts = refl; spells = ([], refl, refl, (None, no_constant, known_joins known)); bytes = bytes })
+      where
+        known_joins : (known : Option ℕ) → Joins known None known
+        known_joins None = refl
+        known_joins (Some index) = (refl, refl)
+    field_attributes_read (suc n) known rest bytes =
+        then_read _ (field_attribute_read known rest bytes) (λ next middle t.
+        let others = field_attributes_read n next middle t.bytes in record { takes = λ r is. let u = others.takes r is in record {
+          text = t.text ++ u.text;
+          parts = joined _ _ _ t.parts u.parts;
+          spells = (t.spells.0 ∷ u.spells.0, (t.text, u.text, refl, t.spells.1, u.spells.1), ap suc u.spells.2, one_more known next r.0 t.spells.0 u.spells.0 t.spells.2 u.spells.3);
+          bytes = u.bytes;
+        } })
+
+    field_attributes_again : {attributes : List Attribute} {constant : Option ℕ} → Constant attributes constant → (known told : Option ℕ) → Joins known constant told → (rest text left : List ℕ) → rest ≡ text ++ left
+        → SpellsEach (SpellsAttribute pool) attributes text → field_attributes size pool head (length attributes) known rest ≡ Ok (told, left)
+    unfolding field_attributes
+    field_attributes_again no_constant known told joins rest text left parts each =
+        let same = sym (joins_none known told joins) in
+        let at_end : rest ≡ left = parts ∙ ap (λ (t : List ℕ). t ++ left) each in
+        cc (same, at_end)
+    field_attributes_again (not_constant attribute more constant other has) known told joins rest text left parts (first, others, both, one, each) =
+        step _ (field_attribute_again known known rest first (others ++ left) (split first others left parts both) (attribute, one, inl (refl, λ is. other is.0 is.1)))
+        (field_attributes_again has known told joins (others ++ left) others left refl each)
+    field_attributes_again (constant_value attribute more index is named value has) known told joins rest text left parts (first, others, both, one, each) =
+        let now = joins_some known told index joins in
+        step _ (field_attribute_again known (Some index) rest first (others ++ left) (split first others left parts both) (attribute, one, inr ((is, named), now.0, (index, refl, value))))
+        (field_attributes_again has (Some index) told (refl, now.1) (others ++ left) others left refl each)
