@@ -333,3 +333,37 @@ module _ (pool : List PoolEntry) where
         let now = joins_some known told index joins in
         step _ (field_attribute_again known (Some index) rest first (others ++ left) (split first others left parts both) (attribute, one, inr ((is, named), now.0, (index, refl, value))))
         (field_attributes_again has (Some index) told (refl, now.1) (others ++ left) others left refl each)
+
+  pub field_read : (size : ℕ) → EachIsSpelled (read_field size pool) (SpellsField pool)
+  unfolding read_field
+  field_read size rest bytes =
+      then_read _ (head_read size Field rest bytes) (λ head behind t.
+      then_read _ (number_read size 2 behind t.bytes) (λ count middle u.
+      then_read _ (field_attributes_read size head count None middle u.bytes) (λ constant left v. ends (record {
+        text = t.text ++ (u.text ++ v.text);
+        parts = joined _ _ _ t.parts (joined _ _ _ u.parts v.parts);
+        spells = record {
+          attributes = v.spells.0;
+          others = u.text ++ v.text;
+          spelled = cc (t.spells.spelled);
+          flags = t.spells.flags;
+          name_index = t.spells.name_index;
+          desc_index = t.spells.desc_index;
+          name = t.spells.name;
+          desc = t.spells.desc;
+          attributes_spelled = (v.text, cc (u.spells.0, v.spells.2), subst (λ (n : ℕ). n < 2 ^ 16) (sym v.spells.2) u.spells.1, v.spells.1);
+          constant = subst (HasConstant pool (has_flag static_flag head.0) head.2 v.spells.0) (sym v.spells.3.2) v.spells.3.1;
+        };
+        bytes = v.bytes;
+      }))))
+
+  pub field_again : (size : ℕ) → EachIsRead (read_field size pool) (SpellsField pool)
+  unfolding read_field
+  field_again size field rest text left parts h =
+      let head : ℕ × ℕ × ℕ = (field.flags, field.name, field.desc) in
+      let front : List ℕ = u2 field.flags ++ u2 field.name ++ u2 field.desc in
+      let (items, both, few, each) = h.attributes_spelled in
+      let spelled : SpellsHead Field head front = record { spelled = refl; flags = h.flags; name_index = h.name_index; desc_index = h.desc_index; name = h.name; desc = h.desc } in
+      step _ (head_again size Field head rest front (h.others ++ left) (split front h.others left parts h.spelled) spelled)
+      (step _ (number_again size 2 (length h.attributes) (items ++ left) (split (u2 (length h.attributes)) items left refl both) few)
+      (step _ (field_attributes_again size head h.constant None field.constant refl (items ++ left) items left refl each) refl))
