@@ -1,0 +1,2 @@
+pub mod GrammarInsns
+pub mod GrammarJumps
