@@ -1,2 +1,3 @@
+pub mod GrammarNumbers
 pub mod GrammarInsns
 pub mod GrammarJumps

@@ -1,0 +1,122 @@
+-- Numbers and runs of bytes: what is read is spelled so, and what is spelled so is read, whatever follows.
+use Rattle.std.proofs.Common.{◌≡◌, ℕ, ◌+◌, ◌*◌, ◌^◌, ◌<◌, ◌≤◌, nat_lt, Bool, true, false, if◌then◌else◌, List, [], ◌∷◌, ◌++◌, length, take, drop, Result, Ok, Err, refl, sym, ap, subst, ◌∙◌, append_assoc, arith}
+use Rattle.std.proofs.lemmas.Bool.{ltb-false, le-ltb}
+use Rattle.std.proofs.lemmas.List.{take_at, drop_at, take-append-drop, length-append, length-take-le}
+use Rattle.byteorder.specs.Endian.{big_bytes, big_number}
+use Rattle.byteorder.specs.Numbers.{big_from-lt, big_number-reads_back, length-bytes_high_first}
+use Rattle.jo_insn.proofs.Numbers.{AreBytes, bytes_behind, bytes_of_number}
+use Rattle.class_pool.specs.declared.faults.ClassCode.{ClassCode}
+use Rattle.class_pool.specs.declared.faults.ClassFault.{ClassFault}
+use Rattle.class_pool.specs.Items.{◌>>=◌, fault, passing, number, bytes_of, two_numbers}
+use Rattle.class_pool.specs.ClassGrammar.{u2}
+
+-- ---- what is shown of a reader
+
+-- these bytes spell x, and `left` follows them
+pub record Takes {X : Type 0} (Spells : X → List ℕ → Type 0) (rest : List ℕ) (x : X) (left : List ℕ) : Type 0 where
+  pub text : List ℕ
+  pub parts : rest ≡ text ++ left
+  pub spells : Spells x text
+  pub bytes : AreBytes left
+
+-- what is read is spelled so
+pub record IsReadAs {X : Type 0} (Spells : X → List ℕ → Type 0) (rest : List ℕ) (read : Result (X × List ℕ) ClassFault) : Type 0 where
+  pub takes : (r : X × List ℕ) → read ≡ Ok r → Takes Spells rest r.0 r.1
+
+pub ends : {X : Type 0} {Spells : X → List ℕ → Type 0} {rest : List ℕ} {x : X} {left : List ℕ} → Takes Spells rest x left → IsReadAs Spells rest (Ok (x, left))
+ends {Spells = Spells} {rest = rest} {x = x} {left = left} t =
+    record { takes = λ r is. let same : (x, left) ≡ r = cc in subst (λ (y : _). Takes Spells rest y.0 y.1) same t }
+
+pub fails : {X : Type 0} {Spells : X → List ℕ → Type 0} {rest : List ℕ} {f : ClassFault} → IsReadAs Spells rest (Err f)
+fails = record { takes = λ r is. absurd (cc) }
+
+-- a step, and what follows it
+pub after : {A X : Type 0} {Spells : X → List ℕ → Type 0} {rest : List ℕ} (read : Result A ClassFault) (more : A → Result (X × List ℕ) ClassFault)
+    → ((a : A) → read ≡ Ok a → IsReadAs Spells rest (more a)) → IsReadAs Spells rest (read >>= more)
+after (Err f) more goes = fails
+after (Ok a) more goes = goes a refl
+
+pub then_read : {A X : Type 0} {First : A → List ℕ → Type 0} {from : List ℕ} {Spells : X → List ℕ → Type 0} {rest : List ℕ} {read : Result (A × List ℕ) ClassFault} (more : A × List ℕ → Result (X × List ℕ) ClassFault)
+    → IsReadAs First from read → ((a : A) (left : List ℕ) → Takes First from a left → IsReadAs Spells rest (more (a, left))) → IsReadAs Spells rest (read >>= more)
+then_read {read = read} more first goes = after read more (λ r is. goes r.0 r.1 (first.takes r is))
+
+pub when : {X : Type 0} {Spells : X → List ℕ → Type 0} {rest : List ℕ} (test : Bool) (code : ClassCode) (place : ℕ) {next : Result (X × List ℕ) ClassFault}
+    → (test ≡ true → IsReadAs Spells rest next) → IsReadAs Spells rest (passing test code place next)
+when true code place goes = goes refl
+when false code place goes = fails
+
+pub either : {X : Type 0} {Spells : X → List ℕ → Type 0} {rest : List ℕ} (test : Bool) {this other : Result (X × List ℕ) ClassFault}
+    → (test ≡ true → IsReadAs Spells rest this) → (test ≡ false → IsReadAs Spells rest other) → IsReadAs Spells rest (if test then this else other)
+either true this_one other_one = this_one refl
+either false this_one other_one = other_one refl
+
+-- the same bytes, spelled as something else
+pub reads_more : {X : Type 0} {First Spells : X → List ℕ → Type 0} {rest : List ℕ} {read : Result (X × List ℕ) ClassFault} → IsReadAs First rest read
+    → ((x : X) (text : List ℕ) → First x text → Spells x text) → IsReadAs Spells rest read
+reads_more first as_well = record { takes = λ r is. let t = first.takes r is in record { text = t.text; parts = t.parts; spells = as_well r.0 t.text t.spells; bytes = t.bytes } }
+
+-- one run of bytes behind another
+pub joined : {rest middle : List ℕ} (text more left : List ℕ) → rest ≡ text ++ middle → middle ≡ more ++ left → rest ≡ (text ++ more) ++ left
+joined text more left first second = first ∙ ap (λ (r : List ℕ). text ++ r) second ∙ sym (append_assoc text more left)
+
+-- a step that reads a, and what follows it
+pub step : {A B : Type 0} {read : Result A ClassFault} (more : A → Result B ClassFault) {a : A} {b : B} → read ≡ Ok a → more a ≡ Ok b → (read >>= more) ≡ Ok b
+step more first second = ap (λ (r : Result _ ClassFault). r >>= more) first ∙ second
+
+pub pass : {A : Type 0} {test : Bool} (code : ClassCode) (place : ℕ) {next : Result A ClassFault} {x : A} → test ≡ true → next ≡ Ok x → passing test code place next ≡ Ok x
+pass code place {next = next} passed is = ap (λ (t : Bool). passing t code place next) passed ∙ is
+
+-- ---- numbers
+
+-- the bytes are those of the number
+abbrev pub SpellsNumber : ℕ → ℕ → List ℕ → Type 0
+SpellsNumber k n text = (text ≡ big_bytes k n) × (n < 256 ^ k)
+
+pub number_read : (size k : ℕ) (rest : List ℕ) → AreBytes rest → IsReadAs (SpellsNumber k) rest (number size k rest)
+number_read size k rest bytes = either _ (λ short. fails) (λ enough. ends (record {
+  text = big_bytes k (big_number k rest);
+  parts = bytes_of_number k rest bytes (ltb-false (length rest) k enough);
+  spells = (refl, big_from-lt 0 k rest bytes);
+  bytes = bytes_behind k rest bytes;
+}))
+
+pub number_again : (size k n : ℕ) (left : List ℕ) → n < 256 ^ k → number size k (big_bytes k n ++ left) ≡ Ok (n, left)
+number_again size k n left below =
+    let head = length-bytes_high_first k n in
+    let enough : k ≤ length (big_bytes k n ++ left) = omega (arith, length-append (big_bytes k n) left) in
+    rw (le-ltb (length (big_bytes k n ++ left)) k enough, big_number-reads_back k n left below, drop_at (big_bytes k n) left k head) refl
+
+-- ---- two numbers
+
+abbrev pub SpellsTwo : ℕ × ℕ → List ℕ → Type 0
+SpellsTwo p text = (text ≡ u2 p.0 ++ u2 p.1) × (p.0 < 2 ^ 16) × (p.1 < 2 ^ 16)
+
+pub two_read : (size : ℕ) (rest : List ℕ) → AreBytes rest → IsReadAs SpellsTwo rest (two_numbers size rest)
+two_read size rest bytes =
+    then_read _ (number_read size 2 rest bytes) (λ a middle t. then_read _ (number_read size 2 middle t.bytes) (λ b left u. ends (record {
+      text = t.text ++ u.text;
+      parts = joined _ _ _ t.parts u.parts;
+      spells = (cc, t.spells.1, u.spells.1);
+      bytes = u.bytes;
+    })))
+
+pub two_again : (size a b : ℕ) (left : List ℕ) → a < 2 ^ 16 → b < 2 ^ 16 → two_numbers size (u2 a ++ u2 b ++ left) ≡ Ok ((a, b), left)
+two_again size a b left small_a small_b = step _ (number_again size 2 a (u2 b ++ left) small_a) (step _ (number_again size 2 b left small_b) refl)
+
+-- ---- so many bytes
+
+abbrev pub SpellsBytes : ℕ → List ℕ → List ℕ → Type 0
+SpellsBytes count content text = (text ≡ content) × (length content ≡ count)
+
+pub bytes_read : (size count : ℕ) (rest : List ℕ) → AreBytes rest → IsReadAs (SpellsBytes count) rest (bytes_of size count rest)
+bytes_read size count rest bytes = either _ (λ short. fails) (λ enough. ends (record {
+  text = take count rest;
+  parts = sym (take-append-drop count rest);
+  spells = (refl, length-take-le count rest (ltb-false (length rest) count enough));
+  bytes = bytes_behind count rest bytes;
+}))
+
+pub bytes_again : (size : ℕ) (content left : List ℕ) → bytes_of size (length content) (content ++ left) ≡ Ok (content, left)
+bytes_again size content left =
+    let enough : length content ≤ length (content ++ left) = omega (arith, length-append content left) in
+    rw (le-ltb (length (content ++ left)) (length content) enough, take_at content left (length content) refl, drop_at content left (length content) refl) refl
