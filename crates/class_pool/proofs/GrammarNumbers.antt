@@ -59,6 +59,10 @@ reads_more first as_well = record { takes = λ r is. let t = first.takes r is in
 pub joined : {rest middle : List ℕ} (text more left : List ℕ) → rest ≡ text ++ middle → middle ≡ more ++ left → rest ≡ (text ++ more) ++ left
 joined text more left first second = first ∙ ap (λ (r : List ℕ). text ++ r) second ∙ sym (append_assoc text more left)
 
+-- a run of two parts, and what is behind it
+pub split : {rest text : List ℕ} (first more left : List ℕ) → rest ≡ text ++ left → text ≡ first ++ more → rest ≡ first ++ (more ++ left)
+split first more left parts both = parts ∙ ap (λ (t : List ℕ). t ++ left) both ∙ append_assoc first more left
+
 -- a step that reads a, and what follows it
 pub step : {A B : Type 0} {read : Result A ClassFault} (more : A → Result B ClassFault) {a : A} {b : B} → read ≡ Ok a → more a ≡ Ok b → (read >>= more) ≡ Ok b
 step more first second = ap (λ (r : Result _ ClassFault). r >>= more) first ∙ second
@@ -80,11 +84,11 @@ number_read size k rest bytes = either _ (λ short. fails) (λ enough. ends (rec
   bytes = bytes_behind k rest bytes;
 }))
 
-pub number_again : (size k n : ℕ) (left : List ℕ) → n < 256 ^ k → number size k (big_bytes k n ++ left) ≡ Ok (n, left)
-number_again size k n left below =
+pub number_again : (size k n : ℕ) {rest : List ℕ} (left : List ℕ) → rest ≡ big_bytes k n ++ left → n < 256 ^ k → number size k rest ≡ Ok (n, left)
+number_again size k n left parts below =
     let head = length-bytes_high_first k n in
     let enough : k ≤ length (big_bytes k n ++ left) = omega (arith, length-append (big_bytes k n) left) in
-    rw (le-ltb (length (big_bytes k n ++ left)) k enough, big_number-reads_back k n left below, drop_at (big_bytes k n) left k head) refl
+    ap (number size k) parts ∙ rw (le-ltb (length (big_bytes k n ++ left)) k enough, big_number-reads_back k n left below, drop_at (big_bytes k n) left k head) refl
 
 -- ---- two numbers
 
@@ -100,8 +104,9 @@ two_read size rest bytes =
       bytes = u.bytes;
     })))
 
-pub two_again : (size a b : ℕ) (left : List ℕ) → a < 2 ^ 16 → b < 2 ^ 16 → two_numbers size (u2 a ++ u2 b ++ left) ≡ Ok ((a, b), left)
-two_again size a b left small_a small_b = step _ (number_again size 2 a (u2 b ++ left) small_a) (step _ (number_again size 2 b left small_b) refl)
+pub two_again : (size : ℕ) (p : ℕ × ℕ) {rest : List ℕ} (left : List ℕ) → rest ≡ u2 p.0 ++ u2 p.1 ++ left → (p.0 < 2 ^ 16) × (p.1 < 2 ^ 16) → two_numbers size rest ≡ Ok (p, left)
+two_again size p left parts small =
+    step _ (number_again size 2 p.0 (u2 p.1 ++ left) parts small.0) (step _ (number_again size 2 p.1 left refl small.1) refl)
 
 -- ---- so many bytes
 
@@ -116,7 +121,8 @@ bytes_read size count rest bytes = either _ (λ short. fails) (λ enough. ends (
   bytes = bytes_behind count rest bytes;
 }))
 
-pub bytes_again : (size : ℕ) (content left : List ℕ) → bytes_of size (length content) (content ++ left) ≡ Ok (content, left)
-bytes_again size content left =
+pub bytes_again : (size : ℕ) (content : List ℕ) {rest : List ℕ} (left : List ℕ) → rest ≡ content ++ left → bytes_of size (length content) rest ≡ Ok (content, left)
+bytes_again size content left parts =
     let enough : length content ≤ length (content ++ left) = omega (arith, length-append content left) in
-    rw (le-ltb (length (content ++ left)) (length content) enough, take_at content left (length content) refl, drop_at content left (length content) refl) refl
+    ap (bytes_of size (length content)) parts
+    ∙ rw (le-ltb (length (content ++ left)) (length content) enough, take_at content left (length content) refl, drop_at content left (length content) refl) refl

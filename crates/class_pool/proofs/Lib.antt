@@ -1,3 +1,4 @@
-pub mod GrammarNumbers
 pub mod GrammarInsns
 pub mod GrammarJumps
+pub mod GrammarNumbers
+pub mod GrammarMany
