@@ -1,4 +1,5 @@
 pub mod GrammarInsns
 pub mod GrammarJumps
+pub mod GrammarCode
 pub mod GrammarNumbers
 pub mod GrammarMany
