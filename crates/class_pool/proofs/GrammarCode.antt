@@ -13,7 +13,7 @@ use Rattle.class_pool.specs.Items.{◌>>=◌, place_of, fault, passing, number, 
 use Rattle.class_pool.specs.Code.{Placed, insns_of, first_bad_jump, row_fault, canonical_code}
 use Rattle.class_pool.specs.ClassOrder.{Spelled, read_row, skip_attributes, read_spelled, jump_checked, row_checked, code_checked, read_code}
 use Rattle.class_pool.specs.ClassGrammar.{u2, u4, SpellsCounted, SpellsRow, AreAttributes, AreInsnsFrom, JumpsWell, IsRow, SpellsCode}
-use Rattle.class_pool.proofs.GrammarNumbers.{Takes, IsReadAs, ends, fails, after, then_read, when, reads_more, split, step, pass, SpellsBytes, number_read, number_again, two_read, two_again, bytes_read, bytes_again}
+use Rattle.class_pool.proofs.GrammarNumbers.{Takes, IsReadAs, ends, fails, after, then_read, when, reads_more, joined, split, step, pass, SpellsBytes, number_read, number_again, two_read, two_again, bytes_read, bytes_again}
 use Rattle.class_pool.proofs.GrammarMany.{EachIsSpelled, EachIsRead, many_read, many_again}
 use Rattle.class_pool.proofs.GrammarInsns.{insns_of_grammar}
 use Rattle.class_pool.proofs.GrammarJumps.{no_bad_jump, no_bad_row}
@@ -49,6 +49,26 @@ module _ (pool : List PoolEntry) (s : Spelled) where
   checked_again kept h =
       rw ((insns_of_grammar pool s.code h.insns).1 h.instructions, (no_bad_jump s.code h.insns h.insns).1 h.jumps, (no_bad_row pool s.code h.insns 0 s.rows).1 h.rows_fit) (ap Ok (sym h.is))
 
+-- ---- rows
+
+at_parts : {rest text : List ℕ} (spelled left : List ℕ) → rest ≡ text ++ left → text ≡ spelled → rest ≡ spelled ++ left
+at_parts spelled left parts is = parts ∙ ap (λ (t : List ℕ). t ++ left) is
+
+pub row_read : (size : ℕ) → EachIsSpelled (read_row size) SpellsRow
+row_read size rest bytes =
+    then_read _ (two_read size rest bytes) (λ bounds middle t.
+    then_read _ (two_read size middle t.bytes) (λ handling left u. ends (record {
+      text = t.text ++ u.text;
+      parts = joined t.text u.text left t.parts u.parts;
+      spells = (cc (t.spells.0, u.spells.0), t.spells.1, t.spells.2, u.spells.1, u.spells.2);
+      bytes = u.bytes;
+    })))
+
+pub row_again : (size : ℕ) → EachIsRead (read_row size) SpellsRow
+row_again size row rest text left parts (spelled, start, end, handler, catch_type) =
+    step _ (two_again size (row.start, row.end) (u2 row.handler ++ (u2 row.catch_type ++ left)) (at_parts (u2 row.start ++ u2 row.end ++ u2 row.handler ++ u2 row.catch_type) left parts spelled) (start, end))
+    (step _ (two_again size (row.handler, row.catch_type) left refl (handler, catch_type)) refl)
+
 -- ---- the parts
 
 -- these bytes spell the limits, the code, the rows and attributes of which nothing is kept
@@ -81,9 +101,6 @@ abbrev SpellsSome : ℕ → List ℕ → List ℕ → Type 0
 SpellsSome count content text = SpellsBytes count content text × (0 < count) × (count < 2 ^ 16)
 
 -- parts of a list, one behind another
-at_parts : {rest text : List ℕ} (spelled left : List ℕ) → rest ≡ text ++ left → text ≡ spelled → rest ≡ spelled ++ left
-at_parts spelled left parts is = parts ∙ ap (λ (t : List ℕ). t ++ left) is
-
 one_list : {rest after_limits after_count after_code after_rows after_items : List ℕ} (a b c d count items attributes left : List ℕ) → rest ≡ (a ++ b) ++ after_limits → after_limits ≡ c ++ after_count → after_count ≡ d ++ after_code
     → after_code ≡ count ++ after_rows → after_rows ≡ items ++ after_items → after_items ≡ attributes ++ left → rest ≡ (a ++ b ++ c ++ d ++ (count ++ items) ++ attributes) ++ left
 one_list a b c d count items attributes left at_limits at_count at_code at_rows at_items at_attributes =
@@ -98,8 +115,7 @@ six_parts a b c d rows attributes left parts spelled = at_parts (a ++ b ++ c ++ 
 size_of : (rest text left : List ℕ) → rest ≡ text ++ left → length rest - length left ≡ length text
 size_of rest text left parts = omega (arith, ap length parts, length-append text left)
 
-module _ (row_read : (size : ℕ) → EachIsSpelled (read_row size) SpellsRow) (row_again : (size : ℕ) → EachIsRead (read_row size) SpellsRow)
-    (skip_read : (size : ℕ) (pool : List PoolEntry) (rest left : List ℕ) → AreBytes rest → skip_attributes size pool rest ≡ Ok left → Takes (λ (_ : Unit {0}) text. AreAttributes pool text) rest tt left)
+module _ (skip_read : (size : ℕ) (pool : List PoolEntry) (rest left : List ℕ) → AreBytes rest → skip_attributes size pool rest ≡ Ok left → Takes (λ (_ : Unit {0}) text. AreAttributes pool text) rest tt left)
     (skip_again : (size : ℕ) (pool : List PoolEntry) (rest text left : List ℕ) → rest ≡ text ++ left → AreAttributes pool text → skip_attributes size pool rest ≡ Ok left) where
   spelled_read : (size : ℕ) (pool : List PoolEntry) (place count : ℕ) (rest : List ℕ) → AreBytes rest → IsReadAs (λ s content. (length content ≡ count) × SpellsParts pool s content) rest (read_spelled size pool place count rest)
   unfolding read_spelled
@@ -117,22 +133,25 @@ module _ (row_read : (size : ℕ) → EachIsSpelled (read_row size) SpellsRow) (
       let counted_rows : t4.text ≡ u2 (length rows) = t4.spells.0 ∙ ap u2 (sym t5.spells.1) in
       let text : List ℕ = u2 limits.0 ++ u2 limits.1 ++ u4 (length code) ++ code ++ (t4.text ++ t5.text) ++ t6.text in
       let parts : rest ≡ text ++ left = one_list (u2 limits.0) (u2 limits.1) (u4 (length code)) code t4.text t5.text t6.text left
-          (at_parts (u2 limits.0 ++ u2 limits.1) after_limits t1.parts t1.spells.0) (at_parts (u4 (length code)) after_count t2.parts number) (at_parts code after_code t3.parts t3.spells.0.0) t4.parts t5.parts t6.parts in
+      (at_parts (u2 limits.0 ++ u2 limits.1) after_limits t1.parts t1.spells.0) (at_parts (u4 (length code)) after_count t2.parts number) (at_parts code after_code t3.parts t3.spells.0.0) t4.parts t5.parts t6.parts in
       ends (record {
         text = text;
         parts = parts;
         bytes = t6.bytes;
-        spells = (sym (size_of rest text left parts) ∙ eqb-true (length rest - length left) count counted, record {
-          rows = t4.text ++ t5.text;
-          attributes = t6.text;
-          spelled = refl;
-          stack = t1.spells.1;
-          locals = t1.spells.2;
-          not_empty = subst (λ (k : ℕ). 0 < k) n_is t3.spells.1;
-          short = subst (λ (k : ℕ). k < 2 ^ 16) n_is t3.spells.2;
-          rows_spelled = (t5.text, ap (λ (t : List ℕ). t ++ t5.text) counted_rows, subst (λ (k : ℕ). k < 2 ^ 16) (sym t5.spells.1) t4.spells.1, t5.spells.0);
-          attributes_spelled = t6.spells;
-        });
+        spells = (
+          sym (size_of rest text left parts) ∙ eqb-true (length rest - length left) count counted,
+          record {
+            rows = t4.text ++ t5.text;
+            attributes = t6.text;
+            spelled = refl;
+            stack = t1.spells.1;
+            locals = t1.spells.2;
+            not_empty = subst (λ (k : ℕ). 0 < k) n_is t3.spells.1;
+            short = subst (λ (k : ℕ). k < 2 ^ 16) n_is t3.spells.2;
+            rows_spelled = (t5.text, ap (λ (t : List ℕ). t ++ t5.text) counted_rows, subst (λ (k : ℕ). k < 2 ^ 16) (sym t5.spells.1) t4.spells.1, t5.spells.0);
+            attributes_spelled = t6.spells;
+          },
+        );
       }))))))))
 
   spelled_again : (size : ℕ) (pool : List PoolEntry) (place : ℕ) (s : Spelled) (rest content left : List ℕ) → rest ≡ content ++ left → SpellsParts pool s content
@@ -148,12 +167,12 @@ module _ (row_read : (size : ℕ) → EachIsSpelled (read_row size) SpellsRow) (
         place_of size (s.code ++ (h.rows ++ after_items)),
         place_of size (items ++ after_items),
         step _ (two_again size (s.max_stack, s.max_locals) (u4 n ++ (s.code ++ (h.rows ++ after_items))) whole (h.stack, h.locals))
-        (step _ (number_again size 4 n (s.code ++ (h.rows ++ after_items)) refl (omega arith))
-        (step _ (pass CodeBounds _ (few_again n h.not_empty short) (bytes_again size s.code (h.rows ++ after_items) refl))
-        (step _ (number_again size 2 k (items ++ after_items) (split (u2 k) items after_items refl h.rows_spelled.1) h.rows_spelled.2)
-        (step _ (many_again (read_row size) SpellsRow (row_again size) s.rows (items ++ after_items) items after_items refl h.rows_spelled.3)
-        (step _ (skip_again size pool after_items h.attributes left refl h.attributes_spelled)
-        (pass CodeBounds place (eq-eqb (length rest - length left) (length content) (size_of rest content left parts)) refl)))))),
+            (step _ (number_again size 4 n (s.code ++ (h.rows ++ after_items)) refl (omega arith))
+            (step _ (pass CodeBounds _ (few_again n h.not_empty short) (bytes_again size s.code (h.rows ++ after_items) refl))
+            (step _ (number_again size 2 k (items ++ after_items) (split (u2 k) items after_items refl h.rows_spelled.1) h.rows_spelled.2)
+            (step _ (many_again (read_row size) SpellsRow (row_again size) s.rows (items ++ after_items) items after_items refl h.rows_spelled.3)
+            (step _ (skip_again size pool after_items h.attributes left refl h.attributes_spelled)
+            (pass CodeBounds place (eq-eqb (length rest - length left) (length content) (size_of rest content left parts)) refl)))))),
       )
 
   -- ---- the attribute
@@ -169,23 +188,26 @@ module _ (row_read : (size : ℕ) → EachIsSpelled (read_row size) SpellsRow) (
         text = t.text;
         parts = t.parts;
         bytes = t.bytes;
-        spells = (t.spells.0, record {
-          code = s.code;
-          rows = p.rows;
-          attributes = p.attributes;
-          insns = h.insns;
-          spelled = p.spelled;
-          stack = p.stack;
-          locals = p.locals;
-          not_empty = p.not_empty;
-          short = p.short;
-          rows_spelled = p.rows_spelled;
-          attributes_spelled = p.attributes_spelled;
-          instructions = h.instructions;
-          jumps = h.jumps;
-          rows_fit = h.rows_fit;
-          kept = h.is;
-        });
+        spells = (
+          t.spells.0,
+          record {
+            code = s.code;
+            rows = p.rows;
+            attributes = p.attributes;
+            insns = h.insns;
+            spelled = p.spelled;
+            stack = p.stack;
+            locals = p.locals;
+            not_empty = p.not_empty;
+            short = p.short;
+            rows_spelled = p.rows_spelled;
+            attributes_spelled = p.attributes_spelled;
+            instructions = h.instructions;
+            jumps = h.jumps;
+            rows_fit = h.rows_fit;
+            kept = h.is;
+          },
+        );
       })))
 
   pub code_again : (size : ℕ) (pool : List PoolEntry) (place : ℕ) (c : CodeInfo) (rest content left : List ℕ) → rest ≡ content ++ left → SpellsCode pool c content → read_code size pool place (length content) rest ≡ Ok (c, left)

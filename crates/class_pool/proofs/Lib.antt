@@ -1,5 +1,6 @@
 pub mod GrammarInsns
 pub mod GrammarJumps
 pub mod GrammarCode
+pub mod GrammarMethods
 pub mod GrammarNumbers
 pub mod GrammarMany
