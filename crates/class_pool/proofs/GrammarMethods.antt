@@ -1,27 +1,25 @@
 -- Methods and the codes among their attributes: what is read is spelled so, and what is spelled so is read.
-use Rattle.std.proofs.Common.{◌≡◌, ◌↔◌, ◌⊎◌, inl, inr, ℕ, zero, suc, ◌+◌, ◌^◌, ◌<◌, Bool, true, false, ◌&&◌, ◌||◌, not, if◌then◌else◌, ◌==◌, nat_lt, List, [], ◌∷◌, ◌++◌, length, Option, Some, None, Result, Ok, Err, refl, sym, ap, subst, ◌∙◌, append_assoc, arith}
+use Rattle.std.proofs.Common.{◌≡◌, inl, inr, ℕ, zero, suc, ◌+◌, ◌^◌, ◌<◌, Bool, true, false, ◌&&◌, ◌||◌, not, if◌then◌else◌, ◌==◌, nat_lt, List, [], ◌∷◌, ◌++◌, length, Option, Some, None, Result, Ok, Err, refl, sym, ap, subst, ◌∙◌, append_assoc, arith}
 use Rattle.std.specs.Prelude.{IsSomeAnd, codes}
 use Rattle.std.specs.Bool.{Decides}
-use Rattle.std.specs.Str.{bytes_eq}
 use Rattle.std.proofs.Math.Bool.{or-true, or-false}
 use Rattle.std.proofs.lemmas.Bool.{false_from_ne_true, eqb-true, not-true, or_cases, or_parts}
-use Rattle.std.proofs.lemmas.Bool.Decides.{nat_tests, not_from_Decides}
+use Rattle.std.proofs.lemmas.Bool.Decides.{not_from_Decides}
 use Rattle.std.proofs.lemmas.Slice.Eq.{bytes_eq-Decides}
 use Rattle.jo_text.specs.Descriptors.{IsMemberName, IsMethodDesc}
 use Rattle.jo_insn.proofs.Numbers.{AreBytes}
 use Rattle.class_pool.specs.declared.entries.PoolEntry.{PoolEntry}
 use Rattle.class_pool.specs.declared.classes.CodeInfo.{CodeInfo}
-use Rattle.class_pool.specs.declared.classes.MemberKind.{MemberKind}
 use Rattle.class_pool.specs.declared.classes.MemberKind.TheVariants.{Method}
 use Rattle.class_pool.specs.declared.classes.MethodInfo.{MethodInfo}
 use Rattle.class_pool.specs.declared.faults.ClassCode.{ClassCode}
-use Rattle.class_pool.specs.declared.faults.ClassCode.TheVariants.{PoolIndex, CodeBounds}
+use Rattle.class_pool.specs.declared.faults.ClassCode.TheVariants.{PoolIndex}
 use Rattle.class_pool.specs.declared.faults.ClassFault.{ClassFault}
-use Rattle.class_pool.specs.Items.{◌>>=◌, place_of, passing, number, bytes_of}
-use Rattle.class_pool.specs.Pool.{utf8_at, is_text, is_text_that, first_failing}
+use Rattle.class_pool.specs.Items.{place_of, bytes_of}
+use Rattle.class_pool.specs.Pool.{utf8_at, is_text, first_failing}
 use Rattle.class_pool.specs.Code.{is_wide_desc}
 use Rattle.class_pool.specs.ClassOrder.{has_flag, native_flag, abstract_flag, synchronized_flag, text_index, read_head, is_named, read_code, method_attributes, method_questions, first_code, read_method}
-use Rattle.class_pool.specs.ClassGrammar.{u2, u4, SpellsEach, Attribute, SpellsAttribute, SpellsAttributes, SpellsCode, HasCodes, no_code, not_code, code_attribute, codes_in, HasBody, Runs, SpellsMethod}
+use Rattle.class_pool.specs.ClassGrammar.{u2, u4, SpellsEach, Attribute, SpellsAttribute, SpellsCode, HasCodes, no_code, not_code, code_attribute, codes_in, HasBody, Runs, SpellsMethod}
 use Rattle.class_pool.proofs.GrammarNumbers.{Takes, IsReadAs, ends, fails, then_read, when, joined, split, step, pass, SpellsNumber, number_read, number_again, bytes_read, bytes_again}
 
 -- ---- the name of an attribute
