@@ -19,34 +19,37 @@ pub record Takes {X : Type 0} (Spells : X → List ℕ → Type 0) (rest : List 
   pub spells : Spells x text
   pub bytes : AreBytes left
 
+-- of what is given, P holds
+pub record Yields {A : Type 0} (P : A → Type 0) (read : Result A ClassFault) : Type 0 where
+  pub takes : (a : A) → read ≡ Ok a → P a
+
 -- what is read is spelled so
-pub record IsReadAs {X : Type 0} (Spells : X → List ℕ → Type 0) (rest : List ℕ) (read : Result (X × List ℕ) ClassFault) : Type 0 where
-  pub takes : (r : X × List ℕ) → read ≡ Ok r → Takes Spells rest r.0 r.1
+abbrev pub IsReadAs : {X : Type 0} → (X → List ℕ → Type 0) → List ℕ → Result (X × List ℕ) ClassFault → Type 0
+IsReadAs {X} Spells rest read = Yields (λ (r : X × List ℕ). Takes Spells rest r.0 r.1) read
+
+pub yields : {A : Type 0} {P : A → Type 0} {a : A} → P a → Yields P (Ok a)
+yields {P = P} holds = record { takes = λ b is. subst P (cc is) holds }
 
 pub ends : {X : Type 0} {Spells : X → List ℕ → Type 0} {rest : List ℕ} {x : X} {left : List ℕ} → Takes Spells rest x left → IsReadAs Spells rest (Ok (x, left))
-ends {Spells = Spells} {rest = rest} {x = x} {left = left} t =
-    record { takes = λ r is. let same : (x, left) ≡ r = cc in subst (λ (y : _). Takes Spells rest y.0 y.1) same t }
+ends {Spells = Spells} {rest = rest} t = yields {P = λ (r : _). Takes Spells rest r.0 r.1} t
 
-pub fails : {X : Type 0} {Spells : X → List ℕ → Type 0} {rest : List ℕ} {f : ClassFault} → IsReadAs Spells rest (Err f)
-fails = record { takes = λ r is. absurd (cc) }
+pub fails : {A : Type 0} {P : A → Type 0} {f : ClassFault} → Yields P (Err f)
+fails = record { takes = λ a is. absurd (cc) }
 
 -- a step, and what follows it
-pub after : {A X : Type 0} {Spells : X → List ℕ → Type 0} {rest : List ℕ} (read : Result A ClassFault) (more : A → Result (X × List ℕ) ClassFault)
-    → ((a : A) → read ≡ Ok a → IsReadAs Spells rest (more a)) → IsReadAs Spells rest (read >>= more)
+pub after : {A B : Type 0} {P : B → Type 0} (read : Result A ClassFault) (more : A → Result B ClassFault) → ((a : A) → read ≡ Ok a → Yields P (more a)) → Yields P (read >>= more)
 after (Err f) more goes = fails
 after (Ok a) more goes = goes a refl
 
-pub then_read : {A X : Type 0} {First : A → List ℕ → Type 0} {from : List ℕ} {Spells : X → List ℕ → Type 0} {rest : List ℕ} {read : Result (A × List ℕ) ClassFault} (more : A × List ℕ → Result (X × List ℕ) ClassFault)
-    → IsReadAs First from read → ((a : A) (left : List ℕ) → Takes First from a left → IsReadAs Spells rest (more (a, left))) → IsReadAs Spells rest (read >>= more)
+pub then_read : {X B : Type 0} {Spells : X → List ℕ → Type 0} {rest : List ℕ} {P : B → Type 0} {read : Result (X × List ℕ) ClassFault} (more : X × List ℕ → Result B ClassFault)
+    → IsReadAs Spells rest read → ((x : X) (left : List ℕ) → Takes Spells rest x left → Yields P (more (x, left))) → Yields P (read >>= more)
 then_read {read = read} more first goes = after read more (λ r is. goes r.0 r.1 (first.takes r is))
 
-pub when : {X : Type 0} {Spells : X → List ℕ → Type 0} {rest : List ℕ} (test : Bool) (code : ClassCode) (place : ℕ) {next : Result (X × List ℕ) ClassFault}
-    → (test ≡ true → IsReadAs Spells rest next) → IsReadAs Spells rest (passing test code place next)
+pub when : {A : Type 0} {P : A → Type 0} (test : Bool) (code : ClassCode) (place : ℕ) {next : Result A ClassFault} → (test ≡ true → Yields P next) → Yields P (passing test code place next)
 when true code place goes = goes refl
 when false code place goes = fails
 
-pub either : {X : Type 0} {Spells : X → List ℕ → Type 0} {rest : List ℕ} (test : Bool) {this other : Result (X × List ℕ) ClassFault}
-    → (test ≡ true → IsReadAs Spells rest this) → (test ≡ false → IsReadAs Spells rest other) → IsReadAs Spells rest (if test then this else other)
+pub either : {A : Type 0} {P : A → Type 0} (test : Bool) {this other : Result A ClassFault} → (test ≡ true → Yields P this) → (test ≡ false → Yields P other) → Yields P (if test then this else other)
 either true this_one other_one = this_one refl
 either false this_one other_one = other_one refl
 

@@ -4,3 +4,5 @@ pub mod GrammarCode
 pub mod GrammarMethods
 pub mod GrammarNumbers
 pub mod GrammarMany
+pub mod GrammarPool
+pub mod GrammarParts
