@@ -12,8 +12,9 @@ use Rattle.class_pool.specs.Items.{place_of, number}
 use Rattle.class_pool.specs.Code.{Placed, insns_of, first_bad_jump, row_fault, canonical_code}
 use Rattle.class_pool.specs.ClassOrder.{Spelled, read_row, skip_attributes, read_spelled, jump_checked, row_checked, code_checked, read_code}
 use Rattle.class_pool.specs.ClassGrammar.{u2, u4, SpellsCounted, SpellsRow, AreAttributes, AreInsnsFrom, JumpsWell, IsRow, SpellsCode}
-use Rattle.class_pool.proofs.GrammarNumbers.{Takes, IsReadAs, ends, after, then_read, when, reads_more, joined, split, step, pass, SpellsBytes, number_read, number_again, two_read, two_again, bytes_read, bytes_again}
+use Rattle.class_pool.proofs.GrammarNumbers.{IsReadAs, ends, after, then_read, when, reads_more, joined, split, step, pass, SpellsBytes, number_read, number_again, two_read, two_again, bytes_read, bytes_again}
 use Rattle.class_pool.proofs.GrammarMany.{EachIsSpelled, EachIsRead, many_read, many_again}
+use Rattle.class_pool.proofs.GrammarParts.{attributes_read, attributes_again}
 use Rattle.class_pool.proofs.GrammarInsns.{insns_of_grammar}
 use Rattle.class_pool.proofs.GrammarJumps.{no_bad_jump, no_bad_row}
 
@@ -114,115 +115,113 @@ six_parts a b c d rows attributes left parts spelled = at_parts (a ++ b ++ c ++ 
 size_of : (rest text left : List ℕ) → rest ≡ text ++ left → length rest - length left ≡ length text
 size_of rest text left parts = omega (arith, ap length parts, length-append text left)
 
-module _ (skip_read : (size : ℕ) (pool : List PoolEntry) (rest left : List ℕ) → AreBytes rest → skip_attributes size pool rest ≡ Ok left → Takes (λ (_ : Unit {0}) text. AreAttributes pool text) rest tt left)
-    (skip_again : (size : ℕ) (pool : List PoolEntry) (rest text left : List ℕ) → rest ≡ text ++ left → AreAttributes pool text → skip_attributes size pool rest ≡ Ok left) where
-  spelled_read : (size : ℕ) (pool : List PoolEntry) (place count : ℕ) (rest : List ℕ) → AreBytes rest → IsReadAs (λ s content. (length content ≡ count) × SpellsParts pool s content) rest (read_spelled size pool place count rest)
-  unfolding read_spelled
-  spelled_read size pool place count rest bytes =
-      then_read _ (two_read size rest bytes) (λ limits after_limits t1.
-      then_read _ (number_read size 4 after_limits t1.bytes) (λ n after_count t2.
-      then_read {First = SpellsSome n} _ (when (few_bytes n) _ _ (λ is. reads_more (bytes_read size n after_count t2.bytes) (λ code text read. let bounds = few n is in (read, bounds.0, bounds.1)))) (λ code after_code t3.
-      then_read _ (number_read size 2 after_code t3.bytes) (λ row_count after_rows t4.
-      then_read _ (many_read (read_row size) SpellsRow (row_read size) row_count after_rows t4.bytes) (λ rows after_items t5.
-      after (skip_attributes size pool after_items) _ (λ left is.
-      let t6 = skip_read size pool after_items left t5.bytes is in
-      when (length rest - length left == count) _ _ (λ counted.
-      let n_is : n ≡ length code = sym t3.spells.0.1 in
-      let number : t2.text ≡ u4 (length code) = t2.spells.0 ∙ ap u4 n_is in
-      let counted_rows : t4.text ≡ u2 (length rows) = t4.spells.0 ∙ ap u2 (sym t5.spells.1) in
-      let text : List ℕ = u2 limits.0 ++ u2 limits.1 ++ u4 (length code) ++ code ++ (t4.text ++ t5.text) ++ t6.text in
-      let parts : rest ≡ text ++ left = one_list (u2 limits.0) (u2 limits.1) (u4 (length code)) code t4.text t5.text t6.text left
-      (at_parts (u2 limits.0 ++ u2 limits.1) after_limits t1.parts t1.spells.0) (at_parts (u4 (length code)) after_count t2.parts number) (at_parts code after_code t3.parts t3.spells.0.0) t4.parts t5.parts t6.parts in
-      ends (record {
-        text = text;
-        parts = parts;
-        bytes = t6.bytes;
-        spells = (
-          sym (size_of rest text left parts) ∙ eqb-true (length rest - length left) count counted,
-          record {
-            rows = t4.text ++ t5.text;
-            attributes = t6.text;
-            spelled = refl;
-            stack = t1.spells.1;
-            locals = t1.spells.2;
-            not_empty = subst (λ (k : ℕ). 0 < k) n_is t3.spells.1;
-            short = subst (λ (k : ℕ). k < 2 ^ 16) n_is t3.spells.2;
-            rows_spelled = (t5.text, ap (λ (t : List ℕ). t ++ t5.text) counted_rows, subst (λ (k : ℕ). k < 2 ^ 16) (sym t5.spells.1) t4.spells.1, t5.spells.0);
-            attributes_spelled = t6.spells;
-          },
-        );
-      }))))))))
+spelled_read : (size : ℕ) (pool : List PoolEntry) (place count : ℕ) (rest : List ℕ) → AreBytes rest → IsReadAs (λ s content. (length content ≡ count) × SpellsParts pool s content) rest (read_spelled size pool place count rest)
+unfolding read_spelled
+spelled_read size pool place count rest bytes =
+    then_read _ (two_read size rest bytes) (λ limits after_limits t1.
+    then_read _ (number_read size 4 after_limits t1.bytes) (λ n after_count t2.
+    then_read {Spells = SpellsSome n} _ (when (few_bytes n) _ _ (λ is. reads_more (bytes_read size n after_count t2.bytes) (λ code text read. let bounds = few n is in (read, bounds.0, bounds.1)))) (λ code after_code t3.
+    then_read _ (number_read size 2 after_code t3.bytes) (λ row_count after_rows t4.
+    then_read _ (many_read (read_row size) SpellsRow (row_read size) row_count after_rows t4.bytes) (λ rows after_items t5.
+    after (skip_attributes size pool after_items) _ (λ left is.
+    let t6 = (attributes_read pool size after_items t5.bytes).takes left is in
+    when (length rest - length left == count) _ _ (λ counted.
+    let n_is : n ≡ length code = sym t3.spells.0.1 in
+    let number : t2.text ≡ u4 (length code) = t2.spells.0 ∙ ap u4 n_is in
+    let counted_rows : t4.text ≡ u2 (length rows) = t4.spells.0 ∙ ap u2 (sym t5.spells.1) in
+    let text : List ℕ = u2 limits.0 ++ u2 limits.1 ++ u4 (length code) ++ code ++ (t4.text ++ t5.text) ++ t6.text in
+    let parts : rest ≡ text ++ left = one_list (u2 limits.0) (u2 limits.1) (u4 (length code)) code t4.text t5.text t6.text left
+    (at_parts (u2 limits.0 ++ u2 limits.1) after_limits t1.parts t1.spells.0) (at_parts (u4 (length code)) after_count t2.parts number) (at_parts code after_code t3.parts t3.spells.0.0) t4.parts t5.parts t6.parts in
+    ends (record {
+      text = text;
+      parts = parts;
+      bytes = t6.bytes;
+      spells = (
+        sym (size_of rest text left parts) ∙ eqb-true (length rest - length left) count counted,
+        record {
+          rows = t4.text ++ t5.text;
+          attributes = t6.text;
+          spelled = refl;
+          stack = t1.spells.1;
+          locals = t1.spells.2;
+          not_empty = subst (λ (k : ℕ). 0 < k) n_is t3.spells.1;
+          short = subst (λ (k : ℕ). k < 2 ^ 16) n_is t3.spells.2;
+          rows_spelled = (t5.text, ap (λ (t : List ℕ). t ++ t5.text) counted_rows, subst (λ (k : ℕ). k < 2 ^ 16) (sym t5.spells.1) t4.spells.1, t5.spells.0);
+          attributes_spelled = t6.spells;
+        },
+      );
+    }))))))))
 
-  spelled_again : (size : ℕ) (pool : List PoolEntry) (place : ℕ) (s : Spelled) (rest content left : List ℕ) → rest ≡ content ++ left → SpellsParts pool s content
-      → (code_place rows_place : ℕ) × (read_spelled size pool place (length content) rest ≡ Ok (record s { code_place = code_place; rows_place = rows_place }, left))
-  unfolding read_spelled
-  spelled_again size pool place s rest content left parts h =
-      let n : ℕ = length s.code in
-      let k : ℕ = length s.rows in
-      let items : List ℕ = h.rows_spelled.0 in
-      let after_items : List ℕ = h.attributes ++ left in
-      let whole = six_parts (u2 s.max_stack) (u2 s.max_locals) (u4 n) s.code h.rows h.attributes left parts h.spelled in
-      let short : n < 2 ^ 16 = h.short in (
-        place_of size (s.code ++ (h.rows ++ after_items)),
-        place_of size (items ++ after_items),
-        step _ (two_again size (s.max_stack, s.max_locals) (u4 n ++ (s.code ++ (h.rows ++ after_items))) whole (h.stack, h.locals))
-            (step _ (number_again size 4 n (s.code ++ (h.rows ++ after_items)) refl (omega arith))
-            (step _ (pass CodeBounds _ (few_again n h.not_empty short) (bytes_again size s.code (h.rows ++ after_items) refl))
-            (step _ (number_again size 2 k (items ++ after_items) (split (u2 k) items after_items refl h.rows_spelled.1) h.rows_spelled.2)
-            (step _ (many_again (read_row size) SpellsRow (row_again size) s.rows (items ++ after_items) items after_items refl h.rows_spelled.3)
-            (step _ (skip_again size pool after_items h.attributes left refl h.attributes_spelled)
-            (pass CodeBounds place (eq-eqb (length rest - length left) (length content) (size_of rest content left parts)) refl)))))),
-      )
+spelled_again : (size : ℕ) (pool : List PoolEntry) (place : ℕ) (s : Spelled) (rest content left : List ℕ) → rest ≡ content ++ left → SpellsParts pool s content
+    → (code_place rows_place : ℕ) × (read_spelled size pool place (length content) rest ≡ Ok (record s { code_place = code_place; rows_place = rows_place }, left))
+unfolding read_spelled
+spelled_again size pool place s rest content left parts h =
+    let n : ℕ = length s.code in
+    let k : ℕ = length s.rows in
+    let items : List ℕ = h.rows_spelled.0 in
+    let after_items : List ℕ = h.attributes ++ left in
+    let whole = six_parts (u2 s.max_stack) (u2 s.max_locals) (u4 n) s.code h.rows h.attributes left parts h.spelled in
+    let short : n < 2 ^ 16 = h.short in (
+      place_of size (s.code ++ (h.rows ++ after_items)),
+      place_of size (items ++ after_items),
+      step _ (two_again size (s.max_stack, s.max_locals) (u4 n ++ (s.code ++ (h.rows ++ after_items))) whole (h.stack, h.locals))
+          (step _ (number_again size 4 n (s.code ++ (h.rows ++ after_items)) refl (omega arith))
+          (step _ (pass CodeBounds _ (few_again n h.not_empty short) (bytes_again size s.code (h.rows ++ after_items) refl))
+          (step _ (number_again size 2 k (items ++ after_items) (split (u2 k) items after_items refl h.rows_spelled.1) h.rows_spelled.2)
+          (step _ (many_again (read_row size) SpellsRow (row_again size) s.rows (items ++ after_items) items after_items refl h.rows_spelled.3)
+          (step _ (attributes_again pool size after_items h.attributes left refl h.attributes_spelled)
+          (pass CodeBounds place (eq-eqb (length rest - length left) (length content) (size_of rest content left parts)) refl)))))),
+    )
 
-  -- ---- the attribute
+-- ---- the attribute
 
-  pub code_read : (size : ℕ) (pool : List PoolEntry) (place count : ℕ) (rest : List ℕ) → AreBytes rest → IsReadAs (λ c content. (length content ≡ count) × SpellsCode pool c content) rest (read_code size pool place count rest)
-  unfolding read_code
-  code_read size pool place count rest bytes =
-      then_read _ (spelled_read size pool place count rest bytes) (λ s left t.
-      after (code_checked pool s (insns_of pool s.code)) _ (λ kept is.
-      let h = insns_pass pool s kept (insns_of pool s.code) refl is in
-      let p = t.spells.1 in
-      ends (record {
-        text = t.text;
-        parts = t.parts;
-        bytes = t.bytes;
-        spells = (
-          t.spells.0,
-          record {
-            code = s.code;
-            rows = p.rows;
-            attributes = p.attributes;
-            insns = h.insns;
-            spelled = p.spelled;
-            stack = p.stack;
-            locals = p.locals;
-            not_empty = p.not_empty;
-            short = p.short;
-            rows_spelled = p.rows_spelled;
-            attributes_spelled = p.attributes_spelled;
-            instructions = h.instructions;
-            jumps = h.jumps;
-            rows_fit = h.rows_fit;
-            kept = h.is;
-          },
-        );
-      })))
+pub code_read : (size : ℕ) (pool : List PoolEntry) (place count : ℕ) (rest : List ℕ) → AreBytes rest → IsReadAs (λ c content. (length content ≡ count) × SpellsCode pool c content) rest (read_code size pool place count rest)
+unfolding read_code
+code_read size pool place count rest bytes =
+    then_read _ (spelled_read size pool place count rest bytes) (λ s left t.
+    after (code_checked pool s (insns_of pool s.code)) _ (λ kept is.
+    let h = insns_pass pool s kept (insns_of pool s.code) refl is in
+    let p = t.spells.1 in
+    ends (record {
+      text = t.text;
+      parts = t.parts;
+      bytes = t.bytes;
+      spells = (
+        t.spells.0,
+        record {
+          code = s.code;
+          rows = p.rows;
+          attributes = p.attributes;
+          insns = h.insns;
+          spelled = p.spelled;
+          stack = p.stack;
+          locals = p.locals;
+          not_empty = p.not_empty;
+          short = p.short;
+          rows_spelled = p.rows_spelled;
+          attributes_spelled = p.attributes_spelled;
+          instructions = h.instructions;
+          jumps = h.jumps;
+          rows_fit = h.rows_fit;
+          kept = h.is;
+        },
+      );
+    })))
 
-  pub code_again : (size : ℕ) (pool : List PoolEntry) (place : ℕ) (c : CodeInfo) (rest content left : List ℕ) → rest ≡ content ++ left → SpellsCode pool c content → read_code size pool place (length content) rest ≡ Ok (c, left)
-  unfolding read_code
-  code_again size pool place c rest content left parts h =
-      let s : Spelled = record { max_stack = c.max_stack; max_locals = c.max_locals; code_place = 0; code = h.code; rows_place = 0; rows = c.rows } in
-      let spelled = spelled_again size pool place s rest content left parts (record {
-        rows = h.rows;
-        attributes = h.attributes;
-        spelled = h.spelled;
-        stack = h.stack;
-        locals = h.locals;
-        not_empty = h.not_empty;
-        short = h.short;
-        rows_spelled = h.rows_spelled;
-        attributes_spelled = h.attributes_spelled;
-      }) in
-      let found : Spelled = record s { code_place = spelled.0; rows_place = spelled.1 } in
-      step _ spelled.2 (step _ (checked_again pool found c.bytes (record { insns = h.insns; instructions = h.instructions; jumps = h.jumps; rows_fit = h.rows_fit; is = h.kept })) refl)
+pub code_again : (size : ℕ) (pool : List PoolEntry) (place : ℕ) (c : CodeInfo) (rest content left : List ℕ) → rest ≡ content ++ left → SpellsCode pool c content → read_code size pool place (length content) rest ≡ Ok (c, left)
+unfolding read_code
+code_again size pool place c rest content left parts h =
+    let s : Spelled = record { max_stack = c.max_stack; max_locals = c.max_locals; code_place = 0; code = h.code; rows_place = 0; rows = c.rows } in
+    let spelled = spelled_again size pool place s rest content left parts (record {
+      rows = h.rows;
+      attributes = h.attributes;
+      spelled = h.spelled;
+      stack = h.stack;
+      locals = h.locals;
+      not_empty = h.not_empty;
+      short = h.short;
+      rows_spelled = h.rows_spelled;
+      attributes_spelled = h.attributes_spelled;
+    }) in
+    let found : Spelled = record s { code_place = spelled.0; rows_place = spelled.1 } in
+    step _ spelled.2 (step _ (checked_again pool found c.bytes (record { insns = h.insns; instructions = h.instructions; jumps = h.jumps; rows_fit = h.rows_fit; is = h.kept })) refl)

@@ -1,5 +1,5 @@
 -- The jumps and the rows of some code: the tests of reading against the grammar.
-use Rattle.std.proofs.Common.{◌≡◌, ◌↔◌, ◌⊎◌, inl, inr, ℕ, zero, suc, ◌<◌, Bool, true, false, ◌&&◌, ◌||◌, cond, nat_lt, ◌==◌, List, [], ◌∷◌, length, Option, Some, None, IsSomeAnd, refl, sym, ap, ◌∙◌, arith}
+use Rattle.std.proofs.Common.{◌≡◌, ◌↔◌, ◌⊎◌, inl, inr, ℕ, zero, suc, ◌<◌, Bool, true, false, ◌&&◌, ◌||◌, cond, nat_lt, ◌==◌, List, [], ◌∷◌, length, Option, Some, None, refl, sym, ap, ◌∙◌, arith}
 use Rattle.std.specs.Prelude.{ℤ, pos, ◌+ℤ◌}
 use Rattle.std.specs.Bool.{Decides}
 use Rattle.std.specs.List.{AllByRecursion, list_all}
@@ -10,9 +10,9 @@ use Rattle.std.proofs.lemmas.Bool.Decides.{Decides-and, Decides-or, Decides-eqb,
 use Rattle.class_pool.specs.declared.entries.PoolEntry.{PoolEntry}
 use Rattle.class_pool.specs.declared.classes.RowInfo.{RowInfo}
 use Rattle.class_pool.specs.declared.faults.ClassCode.TheVariants.{PoolIndex, CodeBounds}
-use Rattle.class_pool.specs.Pool.{class_name_at}
 use Rattle.class_pool.specs.Code.{Placed, has_dims_that, dims_at, is_start, jumps_of, jumps_well, first_bad_jump, row_fault}
 use Rattle.class_pool.specs.ClassGrammar.{IsStart, JumpsWell, IsRow}
+use Rattle.class_pool.proofs.GrammarParts.{dims_decided}
 
 -- ---- jumps
 
@@ -56,11 +56,6 @@ fits_code size insns row = nat_lt row.start row.end && (is_start insns (pos row.
 abbrev names_class : List PoolEntry → RowInfo → Bool
 names_class pool row = row.catch_type == 0 || has_dims_that (λ _. true) (dims_at pool row.catch_type)
 
--- a class's name is there exactly where its dimensions are
-name_there : (pool : List PoolEntry) (index : ℕ) (name : Option (List ℕ)) → class_name_at pool index ≡ name → Decides (has_dims_that (λ _. true) (dims_at pool index)) (IsSomeAnd name (λ _. Unit {0}))
-name_there pool index None is = rw is (λ there. absurd (cc), λ there. absurd there)
-name_there pool index (Some text) is = rw is (λ there. tt, λ there. refl)
-
 code_decides : (size : ℕ) (insns : List Placed) (row : RowInfo) → Decides (fits_code size insns row)
     ((row.start < row.end) × (IsStart insns (pos row.start) × (IsStart insns (pos row.handler) × ((row.end ≡ size) ⊎ IsStart insns (pos row.end)))))
 code_decides size insns row =
@@ -71,7 +66,7 @@ code_decides size insns row =
 
 row_decides : (pool : List PoolEntry) (code : List ℕ) (insns : List Placed) (row : RowInfo) → Decides (fits_code (length code) insns row && names_class pool row) (IsRow pool code insns row)
 row_decides pool code insns row =
-    let named = Decides-or (row.catch_type == 0) (has_dims_that (λ _. true) (dims_at pool row.catch_type)) (Decides-eqb row.catch_type 0) (name_there pool row.catch_type (class_name_at pool row.catch_type) refl) in
+    let named = Decides-or (row.catch_type == 0) (has_dims_that (λ _. true) (dims_at pool row.catch_type)) (Decides-eqb row.catch_type 0) (dims_decided pool (λ _. (λ _. tt, λ _. refl)) row.catch_type) in
     let both = Decides-and (fits_code (length code) insns row) (names_class pool row) (code_decides (length code) insns row) named in (
       λ passes. let parts = both.0 passes in record { forward = parts.0.0; start = parts.0.1.0; handler = parts.0.1.1.0; end = parts.0.1.1.1; catches = parts.1 },
       λ row. both.1 ((row.forward, (row.start, (row.handler, row.end))), row.catches),

@@ -1,52 +1,34 @@
 -- Methods and the codes among their attributes: what is read is spelled so, and what is spelled so is read.
 use Rattle.std.proofs.Common.{◌≡◌, inl, inr, ℕ, zero, suc, ◌+◌, ◌^◌, ◌<◌, Bool, true, false, ◌&&◌, ◌||◌, not, if◌then◌else◌, ◌==◌, nat_lt, List, [], ◌∷◌, ◌++◌, length, Option, Some, None, Result, Ok, Err, refl, sym, ap, subst, ◌∙◌, append_assoc, arith}
-use Rattle.std.specs.Prelude.{IsSomeAnd, codes}
+use Rattle.std.specs.Prelude.{codes}
 use Rattle.std.specs.Bool.{Decides}
 use Rattle.std.proofs.Math.Bool.{or-true, or-false}
 use Rattle.std.proofs.lemmas.Bool.{false_from_ne_true, eqb-true, not-true, or_cases, or_parts}
 use Rattle.std.proofs.lemmas.Bool.Decides.{not_from_Decides}
 use Rattle.std.proofs.lemmas.Slice.Eq.{bytes_eq-Decides}
-use Rattle.jo_text.specs.Descriptors.{IsMemberName, IsMethodDesc}
 use Rattle.jo_insn.proofs.Numbers.{AreBytes}
 use Rattle.class_pool.specs.declared.entries.PoolEntry.{PoolEntry}
 use Rattle.class_pool.specs.declared.classes.CodeInfo.{CodeInfo}
 use Rattle.class_pool.specs.declared.classes.MemberKind.TheVariants.{Method}
-use Rattle.class_pool.specs.declared.classes.MethodInfo.{MethodInfo}
 use Rattle.class_pool.specs.declared.faults.ClassCode.{ClassCode}
-use Rattle.class_pool.specs.declared.faults.ClassCode.TheVariants.{PoolIndex}
 use Rattle.class_pool.specs.declared.faults.ClassFault.{ClassFault}
 use Rattle.class_pool.specs.Items.{place_of, bytes_of}
-use Rattle.class_pool.specs.Pool.{utf8_at, is_text, first_failing}
+use Rattle.class_pool.specs.Pool.{utf8_at, first_failing}
 use Rattle.class_pool.specs.Code.{is_wide_desc}
-use Rattle.class_pool.specs.ClassOrder.{has_flag, native_flag, abstract_flag, synchronized_flag, text_index, read_head, is_named, read_code, method_attributes, method_questions, first_code, read_method}
-use Rattle.class_pool.specs.ClassGrammar.{u2, u4, SpellsEach, Attribute, SpellsAttribute, SpellsCode, HasCodes, no_code, not_code, code_attribute, codes_in, HasBody, Runs, SpellsMethod}
-use Rattle.class_pool.proofs.GrammarNumbers.{Takes, IsReadAs, ends, fails, then_read, when, joined, split, step, pass, SpellsNumber, number_read, number_again, bytes_read, bytes_again}
-
--- ---- the name of an attribute
-
-abbrev SpellsText : List PoolEntry → ℕ → List ℕ → Type 0
-SpellsText pool index text = (text ≡ u2 index) × (index < 2 ^ 16) × IsSomeAnd (utf8_at pool index) (λ _. Unit {0})
-
-text_there : (text : Option (List ℕ)) → Decides (is_text text) (IsSomeAnd text (λ _. Unit {0}))
-text_there None = (λ there. absurd (cc), λ there. absurd there)
-text_there (Some text) = (λ there. tt, λ there. refl)
-
-text_read : (size : ℕ) (pool : List PoolEntry) (rest : List ℕ) → AreBytes rest → IsReadAs (SpellsText pool) rest (text_index size pool rest)
-text_read size pool rest bytes =
-    then_read _ (number_read size 2 rest bytes) (λ index left t. when (is_text (utf8_at pool index)) _ _ (λ there.
-    ends (record { text = t.text; parts = t.parts; spells = (t.spells.0, t.spells.1, (text_there (utf8_at pool index)).0 there); bytes = t.bytes })))
-
-text_again : (size : ℕ) (pool : List PoolEntry) (index : ℕ) {rest : List ℕ} (left : List ℕ) → rest ≡ u2 index ++ left → index < 2 ^ 16 → IsSomeAnd (utf8_at pool index) (λ _. Unit {0}) → text_index size pool rest ≡ Ok (index, left)
-text_again size pool index left parts small there =
-    step _ (number_again size 2 index left parts small) (pass PoolIndex _ ((text_there (utf8_at pool index)).1 there) refl)
-
-is_code : (text : Option (List ℕ)) → Decides (is_named (codes "Code") text) (text ≡ Some (codes "Code"))
-is_code None = (λ named. absurd (cc), λ same. absurd (cc))
-is_code (Some text) =
-    let same = bytes_eq-Decides (codes "Code") text in
-    (λ named. ap Some (sym (same.0 named)), λ is. let text_is : text ≡ codes "Code" = cc in same.1 (sym text_is))
+use Rattle.class_pool.specs.ClassOrder.{has_flag, native_flag, abstract_flag, synchronized_flag, is_named, read_code, method_attributes, method_questions, first_code, read_method}
+use Rattle.class_pool.specs.ClassGrammar.{u2, u4, SpellsEach, Attribute, SpellsAttribute, HasCodes, no_code, not_code, code_attribute, codes_in, HasBody, Runs, SpellsMethod}
+use Rattle.class_pool.proofs.GrammarMany.{EachIsSpelled, EachIsRead}
+use Rattle.class_pool.proofs.GrammarParts.{SpellsAttributeHead, attribute_head_read, attribute_of, attribute_again, head_read, head_again}
+use Rattle.class_pool.proofs.GrammarCode.{code_read, code_again}
+use Rattle.class_pool.proofs.GrammarNumbers.{Takes, IsReadAs, ends, fails, then_read, joined, split, step, number_read, number_again, bytes_read, bytes_again}
 
 -- ---- attributes
+
+code_decided : (text : Option (List ℕ)) → Decides (is_named (codes "Code") text) (text ≡ Some (codes "Code"))
+code_decided None = (λ named. absurd (cc), λ same. absurd (cc))
+code_decided (Some text) =
+    let same = bytes_eq-Decides (codes "Code") text in
+    (λ named. ap Some (sym (same.0 named)), λ is. let text_is : text ≡ codes "Code" = cc in same.1 (sym text_is))
 
 -- by what a test or a reader answers
 by_test : (P : Type 0) (test : Bool) → (test ≡ true → P) → (test ≡ false → P) → P
@@ -61,69 +43,53 @@ by_answer P (Ok r) failed goes = goes r.0 r.1 refl
 abbrev SpellsCodes : List PoolEntry → ℕ → List CodeInfo → List ℕ → Type 0
 SpellsCodes pool n found text = (attributes : List Attribute) × SpellsEach (SpellsAttribute pool) attributes text × (length attributes ≡ n) × HasCodes pool attributes found
 
--- one more of them, which is read from its name on
-more_codes : {pool : List PoolEntry} {n name count : ℕ} {rest after_name after_count after_content left : List ℕ} {found all : List CodeInfo} (content : List ℕ)
-    → Takes (SpellsText pool) rest name after_name → Takes (SpellsNumber 4) after_name count after_count → length content ≡ count → after_count ≡ content ++ after_content
-    → ((more : List Attribute) → HasCodes pool more found → HasCodes pool (record { name = name; content = content } ∷ more) all) → Takes (SpellsCodes pool n) after_content found left → Takes (SpellsCodes pool (suc n)) rest all left
-more_codes {name = name} {rest = rest} {after_name = after_name} {after_count = after_count} {after_content = after_content} {left = left} content t1 t2 size is_content has t4 =
-    let attribute : Attribute = record { name = name; content = content } in
-    let first : List ℕ = u2 name ++ u4 (length content) ++ content in
-    let counted : t2.text ≡ u4 (length content) = t2.spells.0 ∙ ap u4 (sym size) in
-    let short : length content < 2 ^ 32 = subst (λ (k : ℕ). k < 2 ^ 32) (sym size) t2.spells.1 in
-    let at_content : after_name ≡ (u4 (length content) ++ content) ++ after_content = joined (u4 (length content)) content after_content (t2.parts ∙ ap (λ (t : List ℕ). t ++ after_count) counted) is_content in
-    let at_name : rest ≡ first ++ after_content = joined (u2 name) (u4 (length content) ++ content) after_content (t1.parts ∙ ap (λ (t : List ℕ). t ++ after_name) t1.spells.0) at_content in
+-- one more of them, behind its head
+more_codes : {pool : List PoolEntry} {n name count : ℕ} {rest after_head after_content left : List ℕ} {found all : List CodeInfo} (content : List ℕ) → Takes (SpellsAttributeHead pool) rest (name, count) after_head
+    → length content ≡ count → after_head ≡ content ++ after_content → ((more : List Attribute) → HasCodes pool more found → HasCodes pool (record { name = name; content = content } ∷ more) all)
+    → Takes (SpellsCodes pool n) after_content found left → Takes (SpellsCodes pool (suc n)) rest all left
+more_codes {pool = pool} {name = name} {left = left} content t size is_content has u =
+    let attributes : List Attribute = record { name = name; content = content } ∷ u.spells.0 in
+    let first : List ℕ = t.text ++ content in
     record {
-      text = first ++ t4.text;
-      parts = joined first t4.text left at_name t4.parts;
-      bytes = t4.bytes;
-      spells = (attribute ∷ t4.spells.0, (first, t4.text, refl, (refl, t1.spells.1, short, t1.spells.2), t4.spells.1), ap suc t4.spells.2, has t4.spells.0 t4.spells.3);
+      text = first ++ u.text;
+      parts = joined first u.text left (joined t.text content _ t.parts is_content) u.parts;
+      spells = (attributes, (first, u.text, refl, attribute_of pool t.spells (refl, size), u.spells.1), ap suc u.spells.2, has u.spells.0 u.spells.3);
+      bytes = u.bytes;
     }
 
--- an attribute, and what is behind it
-attribute_parts : {rest text first : List ℕ} (name size content others left : List ℕ) → rest ≡ text ++ left → text ≡ first ++ others → first ≡ name ++ size ++ content → rest ≡ name ++ (size ++ (content ++ (others ++ left)))
-attribute_parts {first = first} name size content others left parts both is = split first others left parts both ∙ ap (λ (f : List ℕ). f ++ (others ++ left)) is ∙ simp append_assoc
-
-module _ (code_read : (size : ℕ) (pool : List PoolEntry) (place count : ℕ) (rest : List ℕ) → AreBytes rest → IsReadAs (λ c content. (length content ≡ count) × SpellsCode pool c content) rest (read_code size pool place count rest))
-    (code_again : (size : ℕ) (pool : List PoolEntry) (place : ℕ) (c : CodeInfo) (rest content left : List ℕ) → rest ≡ content ++ left → SpellsCode pool c content → read_code size pool place (length content) rest ≡ Ok (c, left))
-    (size : ℕ) (pool : List PoolEntry) where
-  attributes_read : (n : ℕ) (rest : List ℕ) → AreBytes rest → IsReadAs (SpellsCodes pool n) rest (method_attributes size pool n rest)
+module _ (size : ℕ) (pool : List PoolEntry) where
+  codes_read : (n : ℕ) (rest : List ℕ) → AreBytes rest → IsReadAs (SpellsCodes pool n) rest (method_attributes size pool n rest)
   unfolding method_attributes
-  attributes_read zero rest bytes = ends (record { text = []; parts = refl; spells = ([], refl, refl, no_code); bytes = bytes })
-  attributes_read (suc n) rest bytes =
-      then_read _ (text_read size pool rest bytes) (λ name after_name t1.
-      then_read _ (number_read size 4 after_name t1.bytes) (λ count after_count t2.
-      let is_named_code : Decides (is_named (codes "Code") (utf8_at pool name)) (utf8_at pool name ≡ Some (codes "Code")) = is_code (utf8_at pool name) in
+  codes_read zero rest bytes = ends (record { text = []; parts = refl; spells = ([], refl, refl, no_code); bytes = bytes })
+  codes_read (suc n) rest bytes = attribute_head_read pool size _ rest bytes (λ name count middle behind t.
+      let place : ℕ = place_of size middle in
+      let is_code : Decides (is_named (codes "Code") (utf8_at pool name)) (utf8_at pool name ≡ Some (codes "Code")) = code_decided (utf8_at pool name) in
       by_test _ (is_named (codes "Code") (utf8_at pool name))
-      (λ named. by_answer _ (read_code size pool (place_of size after_name) count after_count) (λ f failed. rw (named, failed) fails) (λ c after_code is.
-      let t3 = (code_read size pool (place_of size after_name) count after_count t2.bytes).takes (c, after_code) is in
-      rw (named, is) (then_read _ (attributes_read n after_code t3.bytes) (λ found left t4.
-      ends (more_codes t3.text t1 t2 t3.spells.0 t3.parts (λ more has. code_attribute (record { name = name; content = t3.text }) more c found (is_named_code.0 named) t3.spells.1 has) t4)))))
-      (λ other. by_answer _ (bytes_of size count after_count) (λ f failed. rw (other, failed) fails) (λ content after_content is.
-      let t3 = (bytes_read size count after_count t2.bytes).takes (content, after_content) is in
-      let at_content : after_count ≡ content ++ after_content = t3.parts ∙ ap (λ (t : List ℕ). t ++ after_content) t3.spells.0 in
-      rw (other, is) (then_read _ (attributes_read n after_content t3.bytes) (λ found left t4.
-      ends (more_codes content t1 t2 t3.spells.1 at_content (λ more has. not_code (record { name = name; content = content }) more found (not_from_Decides _ is_named_code other) has) t4)))))))
+      (λ named. by_answer _ (read_code size pool place count behind) (λ f failed. rw (named, failed) fails) (λ c after_code is.
+      let u = (code_read size pool place count behind t.bytes).takes (c, after_code) is in
+      rw (named, is) (then_read _ (codes_read n after_code u.bytes) (λ found left v.
+      ends (more_codes u.text t u.spells.0 u.parts (λ more has. code_attribute (record { name = name; content = u.text }) more c found (is_code.0 named) u.spells.1 has) v)))))
+      (λ other. by_answer _ (bytes_of size count behind) (λ f failed. rw (other, failed) fails) (λ content after_content is.
+      let u = (bytes_read size count behind t.bytes).takes (content, after_content) is in
+      let at_content : behind ≡ content ++ after_content = u.parts ∙ ap (λ (t : List ℕ). t ++ after_content) u.spells.0 in
+      rw (other, is) (then_read _ (codes_read n after_content u.bytes) (λ found left v.
+      ends (more_codes content t u.spells.1 at_content (λ more has. not_code (record { name = name; content = content }) more found (not_from_Decides _ is_code other) has) v))))))
 
-  attributes_again : {attributes : List Attribute} {found : List CodeInfo} → HasCodes pool attributes found → (rest text left : List ℕ) → rest ≡ text ++ left → SpellsEach (SpellsAttribute pool) attributes text
+  codes_again : {attributes : List Attribute} {found : List CodeInfo} → HasCodes pool attributes found → (rest text left : List ℕ) → rest ≡ text ++ left → SpellsEach (SpellsAttribute pool) attributes text
       → method_attributes size pool (length attributes) rest ≡ Ok (found, left)
   unfolding method_attributes
-  attributes_again no_code rest text left parts none = ap Ok (ap (λ (r : List ℕ). ([], r)) (parts ∙ ap (λ (t : List ℕ). t ++ left) none))
-  attributes_again (not_code attribute more found other has) rest text left parts (first, others, both, one, each) =
+  codes_again no_code rest text left parts none = ap Ok (ap (λ (r : List ℕ). ([], r)) (parts ∙ ap (λ (t : List ℕ). t ++ left) none))
+  codes_again (not_code attribute more found other has) rest text left parts (first, others, both, one, each) =
+      let after_content : List ℕ = others ++ left in
+      let unnamed : is_named (codes "Code") (utf8_at pool attribute.name) ≡ false = false_from_ne_true _ (λ named. other ((code_decided (utf8_at pool attribute.name)).0 named)) in
+      attribute_again pool size _ attribute after_content (split first others left parts both) one
+      (rw (unnamed, bytes_again size attribute.content after_content refl) (step _ (codes_again has after_content others left refl each) refl))
+  codes_again (code_attribute attribute more c found named spelled has) rest text left parts (first, others, both, one, each) =
       let content : List ℕ = attribute.content in
       let after_content : List ℕ = others ++ left in
-      let unnamed : is_named (codes "Code") (utf8_at pool attribute.name) ≡ false = false_from_ne_true _ (λ named. other ((is_code (utf8_at pool attribute.name)).0 named)) in
-      step _ (text_again size pool attribute.name (u4 (length content) ++ (content ++ after_content)) (attribute_parts (u2 attribute.name) (u4 (length content)) content others left parts both one.0) one.1 one.3)
-      (step _ (number_again size 4 (length content) (content ++ after_content) refl one.2)
-      (rw (unnamed, bytes_again size content after_content refl)
-      (step _ (attributes_again has after_content others left refl each) refl)))
-  attributes_again (code_attribute attribute more c found named spelled has) rest text left parts (first, others, both, one, each) =
-      let content : List ℕ = attribute.content in
-      let after_content : List ℕ = others ++ left in
-      let is_named_code = (is_code (utf8_at pool attribute.name)).1 named in
-      step _ (text_again size pool attribute.name (u4 (length content) ++ (content ++ after_content)) (attribute_parts (u2 attribute.name) (u4 (length content)) content others left parts both one.0) one.1 one.3)
-      (step _ (number_again size 4 (length content) (content ++ after_content) refl one.2)
-      (rw (is_named_code, code_again size pool (place_of size (u4 (length content) ++ (content ++ after_content))) c (content ++ after_content) content after_content refl spelled)
-      (step _ (attributes_again has after_content others left refl each) refl)))
+      let is_code = (code_decided (utf8_at pool attribute.name)).1 named in
+      attribute_again pool size _ attribute after_content (split first others left parts both) one
+      (rw (is_code, code_again size pool (place_of size (u4 (length content) ++ (content ++ after_content))) c (content ++ after_content) content after_content refl spelled) (step _ (codes_again has after_content others left refl each) refl))
 
 -- ---- what is asked of a method
 
@@ -192,24 +158,16 @@ first_of_codes : (code : Option CodeInfo) → first_code (codes_in code) ≡ cod
 first_of_codes None = refl
 first_of_codes (Some code) = refl
 
--- what begins a method
-abbrev SpellsHead : List PoolEntry → ℕ × ℕ × ℕ → List ℕ → Type 0
-SpellsHead pool head text = (text ≡ u2 head.0 ++ u2 head.1 ++ u2 head.2) × (head.0 < 2 ^ 16) × (head.1 < 2 ^ 16) × (head.2 < 2 ^ 16) × IsSomeAnd (utf8_at pool head.1) IsMemberName × IsSomeAnd (utf8_at pool head.2) IsMethodDesc
-
 five_parts : {rest text : List ℕ} (a b c count items left : List ℕ) → rest ≡ text ++ left → text ≡ a ++ b ++ c ++ (count ++ items) → rest ≡ (a ++ b ++ c) ++ (count ++ (items ++ left))
 five_parts a b c count items left parts is = parts ∙ ap (λ (t : List ℕ). t ++ left) is ∙ simp append_assoc
 
-module _ (code_read : (size : ℕ) (pool : List PoolEntry) (place count : ℕ) (rest : List ℕ) → AreBytes rest → IsReadAs (λ c content. (length content ≡ count) × SpellsCode pool c content) rest (read_code size pool place count rest))
-    (code_again : (size : ℕ) (pool : List PoolEntry) (place : ℕ) (c : CodeInfo) (rest content left : List ℕ) → rest ≡ content ++ left → SpellsCode pool c content → read_code size pool place (length content) rest ≡ Ok (c, left))
-    (head_read : (size : ℕ) (pool : List PoolEntry) (rest : List ℕ) → AreBytes rest → IsReadAs (SpellsHead pool) rest (read_head size pool Method rest))
-    (head_again : (size : ℕ) (pool : List PoolEntry) (head : ℕ × ℕ × ℕ) (rest text left : List ℕ) → rest ≡ text ++ left → SpellsHead pool head text → read_head size pool Method rest ≡ Ok (head, left))
-    (size : ℕ) (pool : List PoolEntry) where
-  pub method_read : (rest : List ℕ) → AreBytes rest → IsReadAs (SpellsMethod pool) rest (read_method size pool rest)
+module _ (size : ℕ) (pool : List PoolEntry) where
+  pub method_read : EachIsSpelled (read_method size pool) (SpellsMethod pool)
   unfolding read_method
   method_read rest bytes =
-      then_read _ (head_read size pool rest bytes) (λ head after_head t1.
+      then_read _ (head_read pool size Method rest bytes) (λ head after_head t1.
       then_read _ (number_read size 2 after_head t1.bytes) (λ count after_count t2.
-      then_read _ (attributes_read code_read code_again size pool count after_count t2.bytes) (λ found left t3.
+      then_read _ (codes_read size pool count after_count t2.bytes) (λ found left t3.
       by_fault _ (first_failing (method_questions (is_wide_desc (utf8_at pool head.2)) head.0 found))
       (λ passes.
       let h = questions_pass (is_wide_desc (utf8_at pool head.2)) head.0 found passes in
@@ -223,12 +181,12 @@ module _ (code_read : (size : ℕ) (pool : List PoolEntry) (place count : ℕ) (
         spells = record {
           attributes = attributes;
           others = others;
-          spelled = ap (λ (t : List ℕ). t ++ others) t1.spells.0 ∙ simp append_assoc;
-          flags = t1.spells.1;
-          name_index = t1.spells.2;
-          desc_index = t1.spells.3;
-          name = t1.spells.4;
-          desc = t1.spells.5;
+          spelled = ap (λ (t : List ℕ). t ++ others) t1.spells.spelled ∙ simp append_assoc;
+          flags = t1.spells.flags;
+          name_index = t1.spells.name_index;
+          desc_index = t1.spells.desc_index;
+          name = t1.spells.name;
+          desc = t1.spells.desc;
           attributes_spelled = (t3.text, ap (λ (t : List ℕ). t ++ t3.text) counted, subst (λ (k : ℕ). k < 2 ^ 16) (sym t3.spells.2) t2.spells.1, t3.spells.1);
           body = subst (HasCodes pool attributes) h.0 t3.spells.3;
           has_body = h.1.has_body;
@@ -238,7 +196,7 @@ module _ (code_read : (size : ℕ) (pool : List PoolEntry) (place count : ℕ) (
       })))
       (λ wrong is. rw is fails))))
 
-  pub method_again : (m : MethodInfo) (rest text left : List ℕ) → rest ≡ text ++ left → SpellsMethod pool m text → read_method size pool rest ≡ Ok (m, left)
+  pub method_again : EachIsRead (read_method size pool) (SpellsMethod pool)
   unfolding read_method
   method_again m rest text left parts h =
       let k : ℕ = length h.attributes in
@@ -246,7 +204,7 @@ module _ (code_read : (size : ℕ) (pool : List PoolEntry) (place count : ℕ) (
       let head : List ℕ = u2 m.flags ++ u2 m.name ++ u2 m.desc in
       let spelled : text ≡ u2 m.flags ++ u2 m.name ++ u2 m.desc ++ (u2 k ++ items) = h.spelled ∙ ap (λ (others : List ℕ). u2 m.flags ++ u2 m.name ++ u2 m.desc ++ others) h.attributes_spelled.1 in
       let passes = questions_again (is_wide_desc (utf8_at pool m.desc)) m.flags m.code (record { has_body = h.has_body; not_synchronized = h.not_synchronized; not_wide = h.not_wide }) in
-      step _ (head_again size pool (m.flags, m.name, m.desc) rest head (u2 k ++ (items ++ left)) (five_parts (u2 m.flags) (u2 m.name) (u2 m.desc) (u2 k) items left parts spelled) (refl, h.flags, h.name_index, h.desc_index, h.name, h.desc))
+      step _ (head_again pool size Method (m.flags, m.name, m.desc) rest head (u2 k ++ (items ++ left)) (five_parts (u2 m.flags) (u2 m.name) (u2 m.desc) (u2 k) items left parts spelled) (record { spelled = refl; flags = h.flags; name_index = h.name_index; desc_index = h.desc_index; name = h.name; desc = h.desc }))
       (step _ (number_again size 2 k (items ++ left) refl h.attributes_spelled.2)
-      (step _ (attributes_again code_read code_again size pool h.body (items ++ left) items left refl h.attributes_spelled.3)
+      (step _ (codes_again size pool h.body (items ++ left) items left refl h.attributes_spelled.3)
       (rw (passes, first_of_codes m.code) refl)))
