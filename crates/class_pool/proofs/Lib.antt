@@ -1,3 +1,7 @@
+pub mod GrammarInsns
+pub mod GrammarJumps
+pub mod GrammarCode
+pub mod GrammarMethods
 pub mod GrammarNumbers
 pub mod GrammarMany
 pub mod GrammarPool
