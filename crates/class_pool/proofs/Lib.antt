@@ -1,3 +1,11 @@
 pub mod Many
 mod PoolEntries
 pub mod PoolStops
+pub mod GrammarInsns
+pub mod GrammarJumps
+pub mod GrammarCode
+pub mod GrammarMethods
+pub mod GrammarNumbers
+pub mod GrammarMany
+pub mod GrammarPool
+pub mod GrammarParts
