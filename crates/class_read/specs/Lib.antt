@@ -1,4 +1,1 @@
-pub mod Lists
-pub mod ClassGrammar
-pub mod Reading
-pub mod Fitting
+pub mod Faults

@@ -1,14 +1,11 @@
-//! Reads a Java class file: its bytes, by the grammar of the JVM Specification SE 8, chapter 4, cut to the profile.
-//!
-//! `class_pool` has the parts of a class file, `laws` what holds of the grammar itself.
+//! Reads a Java class file by the grammar of `class_pool`: the class, or the first fault with its place.
 #![tactic(auto)]
 
-mod checks;
-pub mod class_pool;
-pub mod laws;
-mod reader;
+mod class;
+mod code;
+mod fields;
+mod instructions;
+mod methods;
+mod parts;
 
-pub use reader::read_class;
-
-#[cfg(test)]
-mod tests;
+pub use class::read_class;
