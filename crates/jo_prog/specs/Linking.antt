@@ -1,12 +1,12 @@
 -- The program of one class file: the prelude, here its first class without its members, and the file's class.
 use Rattle.std.specs.Prelude.{ℕ, zero, suc, Bool, false, if◌then◌else◌, List, [], ◌∷◌, map, length, Option, Some, None, option_map, unwrap_or, codes}
 use Rattle.std.specs.Str.{bytes_eq}
-use Rattle.class_read.specs.ClassGrammar.{utf8_at, class_name_at, entry_at}
-use Rattle.class_read.specs.declared.class_pool.PoolEntry.{PoolEntry}
-use Rattle.class_read.specs.declared.class_pool.PoolEntry.TheVariants.{MethodRef, NameAndType}
-use Rattle.class_read.specs.declared.class_pool.ClassFile.{ClassFile}
-use Rattle.class_read.specs.declared.class_pool.MethodInfo.{MethodInfo}
-use Rattle.class_read.specs.declared.class_pool.CodeInfo.{CodeInfo}
+use Rattle.class_pool.specs.Pool.{utf8_at, class_name_at, entry_at}
+use Rattle.class_pool.specs.declared.entries.PoolEntry.{PoolEntry}
+use Rattle.class_pool.specs.declared.entries.PoolEntry.TheVariants.{MethodRef, NameAndType}
+use Rattle.class_pool.specs.declared.classes.ClassFile.{ClassFile}
+use Rattle.class_pool.specs.declared.classes.MethodInfo.{MethodInfo}
+use Rattle.class_pool.specs.declared.classes.CodeInfo.{CodeInfo}
 use Rattle.jo_prog.specs.declared.program.Program.{Program}
 use Rattle.jo_prog.specs.declared.program.Class.{Class}
 use Rattle.jo_prog.specs.declared.program.Method.{Method}

@@ -1,11 +1,11 @@
 //! Makes the program of one class file.
 ghost use Rattle.std.specs.Prelude.{◌≡◌, ◌<◌, ◌^◌, ◌++◌, ◌∷◌, [], length, map, option_map, IfOk, OnOk};
-ghost use Rattle.class_read.specs.ClassGrammar.{entry_at};
+ghost use Rattle.class_pool.specs.Pool.{entry_at};
 ghost use Rattle.jo_prog.specs.declared.program.Operand.TheVariants.{Unused};
 ghost use Rattle.jo_prog.specs.Linking.{object_class, count_from, text_at, member_named, operand_of, code_of, method_of, this_class_of, program_of};
 
 use crate::program::{Class, Code, MemberRef, Method, Operand, Program, TypeRef};
-use class_read::class_pool::{
+use class_pool::{
     ClassFile, CodeInfo, MethodInfo, PoolEntry, class_name_at, entry_at, utf8_at,
 };
 use jo_ids::{ClassId, List, Memory, MethodId};

@@ -5,12 +5,13 @@ use Rattle.std.proofs.lemmas.Option.{slice_get_read, slice_get-map, same_Some}
 use Rattle.std.specs.Str.{IsUtf8}
 use Rattle.toml.specs.Data.{Members}
 use Rattle.toml.specs.Parse.{parse_document}
-use Rattle.class_read.specs.Lists.{SpellsEach}
-use Rattle.class_read.specs.ClassGrammar.{IsClass, SpellsMethod, SpellsBody, has_flag, native_flag}
-use Rattle.class_read.specs.declared.class_pool.PoolEntry.{PoolEntry}
-use Rattle.class_read.specs.declared.class_pool.ClassFile.{ClassFile}
-use Rattle.class_read.specs.declared.class_pool.MethodInfo.{MethodInfo}
-use Rattle.class_read.specs.declared.class_pool.CodeInfo.{CodeInfo}
+use Rattle.class_pool.specs.ClassGrammar.{SpellsEach}
+use Rattle.class_pool.specs.ClassOrder.{has_flag, native_flag}
+use Rattle.class_pool.specs.ClassGrammar.{IsClass, SpellsMethod, SpellsBody}
+use Rattle.class_pool.specs.declared.entries.PoolEntry.{PoolEntry}
+use Rattle.class_pool.specs.declared.classes.ClassFile.{ClassFile}
+use Rattle.class_pool.specs.declared.classes.MethodInfo.{MethodInfo}
+use Rattle.class_pool.specs.declared.classes.CodeInfo.{CodeInfo}
 use Rattle.class_read.proofs.ClassLemmas.{one_class}
 use Rattle.jo_prog.specs.declared.program.Program.{Program}
 use Rattle.jo_prog.specs.declared.program.Method.{Method}

@@ -1,7 +1,8 @@
 -- What the decision over a class file and a policy says of the program that they make.
 use Rattle.std.specs.Prelude.{◌≡◌, ◌⊎◌, ℕ, true, false, List, Option, Some, slice_get}
-use Rattle.class_read.specs.ClassGrammar.{IsClass, has_flag, native_flag}
-use Rattle.class_read.specs.declared.class_pool.ClassFile.{ClassFile}
+use Rattle.class_pool.specs.ClassOrder.{has_flag, native_flag}
+use Rattle.class_pool.specs.ClassGrammar.{IsClass}
+use Rattle.class_pool.specs.declared.classes.ClassFile.{ClassFile}
 use Rattle.jo_prog.specs.declared.program.Method.{Method}
 use Rattle.jo_prog.specs.declared.program.Code.{Code}
 use Rattle.jo_prog.specs.Program.{code_at}

@@ -4,8 +4,9 @@ use Rattle.std.specs.List.{list_any}
 use Rattle.std.specs.Str.{IsUtf8, bytes_eq}
 use Rattle.toml.specs.Data.{Members}
 use Rattle.toml.specs.Parse.{parse_document}
-use Rattle.class_read.specs.ClassGrammar.{IsClass, has_flag, native_flag}
-use Rattle.class_read.specs.declared.class_pool.ClassFile.{ClassFile}
+use Rattle.class_pool.specs.ClassOrder.{has_flag, native_flag}
+use Rattle.class_pool.specs.ClassGrammar.{IsClass}
+use Rattle.class_pool.specs.declared.classes.ClassFile.{ClassFile}
 use Rattle.jo_prog.specs.declared.program.Program.{Program}
 use Rattle.jo_prog.specs.declared.program.Method.{Method}
 use Rattle.jo_prog.specs.declared.labels.Labels.{Labels}

@@ -2,14 +2,14 @@
 ghost use Rattle.std.specs.Prelude.{◌≡◌, ◌↔◌, IfOk, IfNone, IfSome, IsTrue, unwrap_or, [], map};
 ghost use Rattle.std.specs.List.{list_any};
 ghost use Rattle.std.specs.Str.{bytes_eq};
-ghost use Rattle.class_read.specs.ClassGrammar.{class_name_at};
+ghost use Rattle.class_pool.specs.Pool.{class_name_at};
 ghost use Rattle.jo_prog.specs.declared.program.Program.{Program};
 ghost use Rattle.jo_prog.specs.PlainCode.{IsPlainProgram};
 ghost use Rattle.flow_graph.specs.Building.{HasShortCode};
 ghost use Rattle.joana_cli.specs.Decision.{Decides, MakesProgram, HasOneCode, IsFormOf, IsVerdict};
 ghost use Rattle.joana_cli.specs.FirstForm.{is_of_prelude, is_under_object};
 
-use class_read::class_pool::{ClassFile, class_name_at};
+use class_pool::{ClassFile, class_name_at};
 use class_read::read_class;
 use flow_graph::sdg;
 use jo_ids::MethodId;

@@ -1,6 +1,6 @@
 use Rattle.std.proofs.Common.{Option, IfSome, IfNone, subst, sym}
-use Rattle.class_read.specs.ClassGrammar.{IsClass}
-use Rattle.class_read.specs.declared.class_pool.ClassFile.{ClassFile}
+use Rattle.class_pool.specs.ClassGrammar.{IsClass}
+use Rattle.class_pool.specs.declared.classes.ClassFile.{ClassFile}
 use Rattle.joana_cli.proofs.Forms.{no_program, wrong_name, wrong_superclass, few_methods}
 use Rattle.joana_cli.proofs.check.program_of.Goals as goal
 
