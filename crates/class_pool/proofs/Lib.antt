@@ -6,3 +6,4 @@ pub mod GrammarNumbers
 pub mod GrammarMany
 pub mod GrammarPool
 pub mod GrammarParts
+pub mod GrammarClass
