@@ -35,6 +35,12 @@ kind_decided : (kind : MemberKind) (text : List ℕ) → Decides (fits_kind kind
 kind_decided Field text = field_decided text
 kind_decided Method text = method_decided text
 
+-- an attribute has that name
+pub named_decided : (name : List ℕ) (text : Option (List ℕ)) → Decides (is_named name text) (text ≡ Some name)
+named_decided name None = (λ e. absurd (cc), λ h. absurd (cc))
+named_decided name (Some text) =
+    Decides-like _ (λ (same : name ≡ text). ap Some (sym same)) (λ (is : Some text ≡ Some name). sym (same_Some text name is)) (bytes_eq-Decides name text)
+
 module _ (pool : List PoolEntry) where
   -- ---- indices
 
@@ -198,11 +204,6 @@ module _ (pool : List PoolEntry) where
           ∙ many_again (skip_attribute size pool) SpellsSkipped (skip_again size) units (items ++ left) items left refl (skipped attributes items spelled)) refl)
 
   -- ---- fields
-
-  named_decided : (name : List ℕ) (text : Option (List ℕ)) → Decides (is_named name text) (text ≡ Some name)
-  named_decided name None = (λ e. absurd (cc), λ h. absurd (cc))
-  named_decided name (Some text) =
-      Decides-like _ (λ (same : name ≡ text). ap Some (sym same)) (λ (is : Some text ≡ Some name). sym (same_Some text name is)) (bytes_eq-Decides name text)
 
   module _ (size : ℕ) (head : ℕ × ℕ × ℕ) where
     abbrev static : Bool
