@@ -13,7 +13,7 @@ use Rattle.class_pool.specs.Code.{Placed, insns_of, first_bad_jump, row_fault, c
 use Rattle.class_pool.specs.ClassOrder.{Spelled, read_row, skip_attributes, read_spelled, jump_checked, row_checked, code_checked, read_code}
 use Rattle.class_pool.specs.ClassGrammar.{u2, u4, SpellsCounted, SpellsRow, AreAttributes, AreInsnsFrom, JumpsWell, IsRow, SpellsCode}
 use Rattle.class_pool.proofs.GrammarNumbers.{IsReadAs, ends, after, then_read, when, reads_more, joined, split, step, pass, SpellsBytes, number_read, number_again, two_read, two_again, bytes_read, bytes_again}
-use Rattle.class_pool.proofs.GrammarMany.{EachIsSpelled, EachIsRead, many_read, many_again}
+use Rattle.class_pool.proofs.GrammarMany.{EachIsSpelled, EachIsRead, counted, many_read, many_again}
 use Rattle.class_pool.proofs.GrammarParts.{attributes_read, attributes_again}
 use Rattle.class_pool.proofs.GrammarInsns.{insns_of_grammar}
 use Rattle.class_pool.proofs.GrammarJumps.{no_bad_jump, no_bad_row}
@@ -125,10 +125,9 @@ spelled_read size pool place count rest bytes =
     then_read _ (many_read (read_row size) SpellsRow (row_read size) row_count after_rows t4.bytes) (λ rows after_items t5.
     after (skip_attributes size pool after_items) _ (λ left is.
     let t6 = (attributes_read pool size after_items t5.bytes).takes left is in
-    when (length rest - length left == count) _ _ (λ counted.
+    when (length rest - length left == count) _ _ (λ right.
     let n_is : n ≡ length code = sym t3.spells.0.1 in
     let number : t2.text ≡ u4 (length code) = t2.spells.0 ∙ ap u4 n_is in
-    let counted_rows : t4.text ≡ u2 (length rows) = t4.spells.0 ∙ ap u2 (sym t5.spells.1) in
     let text : List ℕ = u2 limits.0 ++ u2 limits.1 ++ u4 (length code) ++ code ++ (t4.text ++ t5.text) ++ t6.text in
     let parts : rest ≡ text ++ left = one_list (u2 limits.0) (u2 limits.1) (u4 (length code)) code t4.text t5.text t6.text left
     (at_parts (u2 limits.0 ++ u2 limits.1) after_limits t1.parts t1.spells.0) (at_parts (u4 (length code)) after_count t2.parts number) (at_parts code after_code t3.parts t3.spells.0.0) t4.parts t5.parts t6.parts in
@@ -137,7 +136,7 @@ spelled_read size pool place count rest bytes =
       parts = parts;
       bytes = t6.bytes;
       spells = (
-        sym (size_of rest text left parts) ∙ eqb-true (length rest - length left) count counted,
+        sym (size_of rest text left parts) ∙ eqb-true (length rest - length left) count right,
         record {
           rows = t4.text ++ t5.text;
           attributes = t6.text;
@@ -146,7 +145,7 @@ spelled_read size pool place count rest bytes =
           locals = t1.spells.2;
           not_empty = subst (λ (k : ℕ). 0 < k) n_is t3.spells.1;
           short = subst (λ (k : ℕ). k < 2 ^ 16) n_is t3.spells.2;
-          rows_spelled = (t5.text, ap (λ (t : List ℕ). t ++ t5.text) counted_rows, subst (λ (k : ℕ). k < 2 ^ 16) (sym t5.spells.1) t4.spells.1, t5.spells.0);
+          rows_spelled = counted SpellsRow rows t5.text t4.spells t5.spells.0 t5.spells.1;
           attributes_spelled = t6.spells;
         },
       );

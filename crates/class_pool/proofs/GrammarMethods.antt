@@ -17,27 +17,16 @@ use Rattle.class_pool.specs.Pool.{utf8_at, first_failing}
 use Rattle.class_pool.specs.Code.{is_wide_desc}
 use Rattle.class_pool.specs.ClassOrder.{has_flag, native_flag, abstract_flag, synchronized_flag, is_named, read_code, method_attributes, method_questions, first_code, read_method}
 use Rattle.class_pool.specs.ClassGrammar.{u2, u4, SpellsEach, Attribute, SpellsAttribute, HasCodes, no_code, not_code, code_attribute, codes_in, HasBody, Runs, SpellsMethod}
-use Rattle.class_pool.proofs.GrammarMany.{EachIsSpelled, EachIsRead}
-use Rattle.class_pool.proofs.GrammarParts.{SpellsAttributeHead, attribute_head_read, attribute_of, attribute_again, head_read, head_again}
+use Rattle.class_pool.proofs.GrammarMany.{EachIsSpelled, EachIsRead, counted}
+use Rattle.class_pool.proofs.GrammarParts.{named_decided, SpellsAttributeHead, attribute_head_read, attribute_of, attribute_again, SpellsHead, head_read, head_again}
 use Rattle.class_pool.proofs.GrammarCode.{code_read, code_again}
-use Rattle.class_pool.proofs.GrammarNumbers.{Takes, IsReadAs, ends, fails, then_read, joined, split, step, number_read, number_again, bytes_read, bytes_again}
+use Rattle.class_pool.proofs.GrammarNumbers.{Takes, IsReadAs, by_answer, ends, fails, then_read, joined, split, step, number_read, number_again, bytes_read, bytes_again}
 
 -- ---- attributes
 
-code_decided : (text : Option (List ℕ)) → Decides (is_named (codes "Code") text) (text ≡ Some (codes "Code"))
-code_decided None = (λ named. absurd (cc), λ same. absurd (cc))
-code_decided (Some text) =
-    let same = bytes_eq-Decides (codes "Code") text in
-    (λ named. ap Some (sym (same.0 named)), λ is. let text_is : text ≡ codes "Code" = cc in same.1 (sym text_is))
-
--- by what a test or a reader answers
-by_test : (P : Type 0) (test : Bool) → (test ≡ true → P) → (test ≡ false → P) → P
-by_test P true passed failed = passed refl
-by_test P false passed failed = failed refl
-
-by_answer : {X : Type 0} (P : Type 0) (read : Result (X × List ℕ) ClassFault) → ((f : ClassFault) → read ≡ Err f → P) → ((x : X) (left : List ℕ) → read ≡ Ok (x, left) → P) → P
-by_answer P (Err f) failed goes = failed f refl
-by_answer P (Ok r) failed goes = goes r.0 r.1 refl
+by_test : {P : Type 0} (test : Bool) → (test ≡ true → P) → (test ≡ false → P) → P
+by_test true passed failed = passed refl
+by_test false passed failed = failed refl
 
 -- so many attributes with these codes among them
 abbrev SpellsCodes : List PoolEntry → ℕ → List CodeInfo → List ℕ → Type 0
@@ -63,17 +52,17 @@ module _ (size : ℕ) (pool : List PoolEntry) where
   codes_read zero rest bytes = ends (record { text = []; parts = refl; spells = ([], refl, refl, no_code); bytes = bytes })
   codes_read (suc n) rest bytes = attribute_head_read pool size _ rest bytes (λ name count middle behind t.
       let place : ℕ = place_of size middle in
-      let is_code : Decides (is_named (codes "Code") (utf8_at pool name)) (utf8_at pool name ≡ Some (codes "Code")) = code_decided (utf8_at pool name) in
-      by_test _ (is_named (codes "Code") (utf8_at pool name))
-      (λ named. by_answer _ (read_code size pool place count behind) (λ f failed. rw (named, failed) fails) (λ c after_code is.
-      let u = (code_read size pool place count behind t.bytes).takes (c, after_code) is in
-      rw (named, is) (then_read _ (codes_read n after_code u.bytes) (λ found left v.
-      ends (more_codes u.text t u.spells.0 u.parts (λ more has. code_attribute (record { name = name; content = u.text }) more c found (is_code.0 named) u.spells.1 has) v)))))
-      (λ other. by_answer _ (bytes_of size count behind) (λ f failed. rw (other, failed) fails) (λ content after_content is.
-      let u = (bytes_read size count behind t.bytes).takes (content, after_content) is in
-      let at_content : behind ≡ content ++ after_content = u.parts ∙ ap (λ (t : List ℕ). t ++ after_content) u.spells.0 in
-      rw (other, is) (then_read _ (codes_read n after_content u.bytes) (λ found left v.
-      ends (more_codes content t u.spells.1 at_content (λ more has. not_code (record { name = name; content = content }) more found (not_from_Decides _ is_code other) has) v))))))
+      let is_code : Decides (is_named (codes "Code") (utf8_at pool name)) (utf8_at pool name ≡ Some (codes "Code")) = named_decided (codes "Code") (utf8_at pool name) in
+      by_test (is_named (codes "Code") (utf8_at pool name))
+      (λ named. by_answer (read_code size pool place count behind) (λ f failed. rw (named, failed) fails) (λ code is.
+      let u = (code_read size pool place count behind t.bytes).takes code is in
+      rw (named, is) (then_read _ (codes_read n code.1 u.bytes) (λ found left v.
+      ends (more_codes u.text t u.spells.0 u.parts (λ more has. code_attribute (record { name = name; content = u.text }) more code.0 found (is_code.0 named) u.spells.1 has) v)))))
+      (λ other. by_answer (bytes_of size count behind) (λ f failed. rw (other, failed) fails) (λ content is.
+      let u = (bytes_read size count behind t.bytes).takes content is in
+      let at_content : behind ≡ content.0 ++ content.1 = u.parts ∙ ap (λ (t : List ℕ). t ++ content.1) u.spells.0 in
+      rw (other, is) (then_read _ (codes_read n content.1 u.bytes) (λ found left v.
+      ends (more_codes content.0 t u.spells.1 at_content (λ more has. not_code (record { name = name; content = content.0 }) more found (not_from_Decides _ is_code other) has) v))))))
 
   codes_again : {attributes : List Attribute} {found : List CodeInfo} → HasCodes pool attributes found → (rest text left : List ℕ) → rest ≡ text ++ left → SpellsEach (SpellsAttribute pool) attributes text
       → method_attributes size pool (length attributes) rest ≡ Ok (found, left)
@@ -81,13 +70,13 @@ module _ (size : ℕ) (pool : List PoolEntry) where
   codes_again no_code rest text left parts none = ap Ok (ap (λ (r : List ℕ). ([], r)) (parts ∙ ap (λ (t : List ℕ). t ++ left) none))
   codes_again (not_code attribute more found other has) rest text left parts (first, others, both, one, each) =
       let after_content : List ℕ = others ++ left in
-      let unnamed : is_named (codes "Code") (utf8_at pool attribute.name) ≡ false = false_from_ne_true _ (λ named. other ((code_decided (utf8_at pool attribute.name)).0 named)) in
+      let unnamed : is_named (codes "Code") (utf8_at pool attribute.name) ≡ false = false_from_ne_true _ (λ named. other ((named_decided (codes "Code") (utf8_at pool attribute.name)).0 named)) in
       attribute_again pool size _ attribute after_content (split first others left parts both) one
       (rw (unnamed, bytes_again size attribute.content after_content refl) (step _ (codes_again has after_content others left refl each) refl))
   codes_again (code_attribute attribute more c found named spelled has) rest text left parts (first, others, both, one, each) =
       let content : List ℕ = attribute.content in
       let after_content : List ℕ = others ++ left in
-      let is_code = (code_decided (utf8_at pool attribute.name)).1 named in
+      let is_code = (named_decided (codes "Code") (utf8_at pool attribute.name)).1 named in
       attribute_again pool size _ attribute after_content (split first others left parts both) one
       (rw (is_code, code_again size pool (place_of size (u4 (length content) ++ (content ++ after_content))) c (content ++ after_content) content after_content refl spelled) (step _ (codes_again has after_content others left refl each) refl))
 
@@ -158,9 +147,6 @@ first_of_codes : (code : Option CodeInfo) → first_code (codes_in code) ≡ cod
 first_of_codes None = refl
 first_of_codes (Some code) = refl
 
-five_parts : {rest text : List ℕ} (a b c count items left : List ℕ) → rest ≡ text ++ left → text ≡ a ++ b ++ c ++ (count ++ items) → rest ≡ (a ++ b ++ c) ++ (count ++ (items ++ left))
-five_parts a b c count items left parts is = parts ∙ ap (λ (t : List ℕ). t ++ left) is ∙ simp append_assoc
-
 module _ (size : ℕ) (pool : List PoolEntry) where
   pub method_read : EachIsSpelled (read_method size pool) (SpellsMethod pool)
   unfolding read_method
@@ -172,7 +158,6 @@ module _ (size : ℕ) (pool : List PoolEntry) where
       (λ passes.
       let h = questions_pass (is_wide_desc (utf8_at pool head.2)) head.0 found passes in
       let attributes : List Attribute = t3.spells.0 in
-      let counted : t2.text ≡ u2 (length attributes) = t2.spells.0 ∙ ap u2 (sym t3.spells.2) in
       let others : List ℕ = t2.text ++ t3.text in
       rw passes (ends (record {
         text = t1.text ++ others;
@@ -181,13 +166,13 @@ module _ (size : ℕ) (pool : List PoolEntry) where
         spells = record {
           attributes = attributes;
           others = others;
-          spelled = ap (λ (t : List ℕ). t ++ others) t1.spells.spelled ∙ simp append_assoc;
+          spelled = ap (λ (t : List ℕ). t ++ others) t1.spells.spelled;
           flags = t1.spells.flags;
           name_index = t1.spells.name_index;
           desc_index = t1.spells.desc_index;
           name = t1.spells.name;
           desc = t1.spells.desc;
-          attributes_spelled = (t3.text, ap (λ (t : List ℕ). t ++ t3.text) counted, subst (λ (k : ℕ). k < 2 ^ 16) (sym t3.spells.2) t2.spells.1, t3.spells.1);
+          attributes_spelled = counted (SpellsAttribute pool) attributes t3.text t2.spells t3.spells.1 t3.spells.2;
           body = subst (HasCodes pool attributes) h.0 t3.spells.3;
           has_body = h.1.has_body;
           not_synchronized = h.1.not_synchronized;
@@ -199,12 +184,11 @@ module _ (size : ℕ) (pool : List PoolEntry) where
   pub method_again : EachIsRead (read_method size pool) (SpellsMethod pool)
   unfolding read_method
   method_again m rest text left parts h =
-      let k : ℕ = length h.attributes in
-      let items : List ℕ = h.attributes_spelled.0 in
-      let head : List ℕ = u2 m.flags ++ u2 m.name ++ u2 m.desc in
-      let spelled : text ≡ u2 m.flags ++ u2 m.name ++ u2 m.desc ++ (u2 k ++ items) = h.spelled ∙ ap (λ (others : List ℕ). u2 m.flags ++ u2 m.name ++ u2 m.desc ++ others) h.attributes_spelled.1 in
+      let front : List ℕ = u2 m.flags ++ u2 m.name ++ u2 m.desc in
+      let (items, both, few, each) = h.attributes_spelled in
+      let head : SpellsHead pool Method (m.flags, m.name, m.desc) front = record { spelled = refl; flags = h.flags; name_index = h.name_index; desc_index = h.desc_index; name = h.name; desc = h.desc } in
       let passes = questions_again (is_wide_desc (utf8_at pool m.desc)) m.flags m.code (record { has_body = h.has_body; not_synchronized = h.not_synchronized; not_wide = h.not_wide }) in
-      step _ (head_again pool size Method (m.flags, m.name, m.desc) rest head (u2 k ++ (items ++ left)) (five_parts (u2 m.flags) (u2 m.name) (u2 m.desc) (u2 k) items left parts spelled) (record { spelled = refl; flags = h.flags; name_index = h.name_index; desc_index = h.desc_index; name = h.name; desc = h.desc }))
-      (step _ (number_again size 2 k (items ++ left) refl h.attributes_spelled.2)
-      (step _ (codes_again size pool h.body (items ++ left) items left refl h.attributes_spelled.3)
+      step _ (head_again pool size Method (m.flags, m.name, m.desc) rest front (h.others ++ left) (split front h.others left parts h.spelled) head)
+      (step _ (number_again size 2 (length h.attributes) (items ++ left) (split (u2 (length h.attributes)) items left refl both) few)
+      (step _ (codes_again size pool h.body (items ++ left) items left refl each)
       (rw (passes, first_of_codes m.code) refl)))

@@ -58,10 +58,13 @@ pub either : {A : Type 0} {P : A → Type 0} (test : Bool) {this other : Result 
 either true this_one other_one = this_one refl
 either false this_one other_one = other_one refl
 
+pub yields_more : {A : Type 0} {P Q : A → Type 0} {read : Result A ClassFault} → Yields P read → ((a : A) → P a → Q a) → Yields Q read
+yields_more first as_well = record { takes = λ a is. as_well a (first.takes a is) }
+
 -- the same bytes, spelled as something else
 pub reads_more : {X : Type 0} {First Spells : X → List ℕ → Type 0} {rest : List ℕ} {read : Result (X × List ℕ) ClassFault} → IsReadAs First rest read
     → ((x : X) (text : List ℕ) → First x text → Spells x text) → IsReadAs Spells rest read
-reads_more first as_well = record { takes = λ r is. let t = first.takes r is in record { text = t.text; parts = t.parts; spells = as_well r.0 t.text t.spells; bytes = t.bytes } }
+reads_more first as_well = yields_more first (λ r t. record { text = t.text; parts = t.parts; spells = as_well r.0 t.text t.spells; bytes = t.bytes })
 
 -- one run of bytes behind another
 pub joined : {rest middle : List ℕ} (text more left : List ℕ) → rest ≡ text ++ middle → middle ≡ more ++ left → rest ≡ (text ++ more) ++ left

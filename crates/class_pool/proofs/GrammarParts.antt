@@ -23,7 +23,7 @@ use Rattle.class_pool.specs.ClassOrder
 use Rattle.class_pool.specs.ClassOrder.{has_flag, static_flag, class_index, text_index, fits_kind, read_head, skip_attribute, skip_attributes, is_named, fits_constant, field_attribute, field_attributes, read_field}
 use Rattle.class_pool.specs.ClassGrammar.{u2, u4, SpellsEach, SpellsCounted, Attribute, SpellsAttribute, SpellsAttributes, AreAttributes, IsConstantValue, HasConstant, no_constant, not_constant, constant_value, SpellsField, IsClassIndex, SpellsClassIndex}
 use Rattle.class_pool.proofs.GrammarNumbers.{Takes, Yields, IsReadAs, yields, by_answer, ends, fails, then_read, when, either, joined, split, step, pass, SpellsNumber, number_read, number_again, SpellsBytes, bytes_read, bytes_again}
-use Rattle.class_pool.proofs.GrammarMany.{EachIsSpelled, EachIsRead, SpellsMany, many_read, many_again}
+use Rattle.class_pool.proofs.GrammarMany.{EachIsSpelled, EachIsRead, counted, many_read, many_again}
 use Rattle.class_pool.proofs.GrammarPool.{text_decided, there, there_decided}
 
 -- a descriptor of a field, and of a method
@@ -34,6 +34,12 @@ IsDescOf Method text = IsMethodDesc text
 kind_decided : (kind : MemberKind) (text : List ℕ) → Decides (fits_kind kind text) (IsDescOf kind text)
 kind_decided Field text = field_decided text
 kind_decided Method text = method_decided text
+
+-- an attribute has that name
+pub named_decided : (name : List ℕ) (text : Option (List ℕ)) → Decides (is_named name text) (text ≡ Some name)
+named_decided name None = (λ e. absurd (cc), λ h. absurd (cc))
+named_decided name (Some text) =
+    Decides-like _ (λ (same : name ≡ text). ap Some (sym same)) (λ (is : Some text ≡ Some name). sym (same_Some text name is)) (bytes_eq-Decides name text)
 
 module _ (pool : List PoolEntry) where
   -- ---- indices
@@ -183,11 +189,10 @@ module _ (pool : List PoolEntry) where
       then_read _ (number_read size 2 rest bytes) (λ count middle t.
       then_read _ (many_read (skip_attribute size pool) SpellsSkipped (skip_read size) count middle t.bytes) (λ skipped_ones left u.
       let found = kept skipped_ones u.text u.spells.0 in
-      let many_are : length found.0 ≡ count = found.2 ∙ u.spells.1 in
       yields {P = SkipsAttributes rest} (record {
         text = t.text ++ u.text;
         parts = joined _ _ _ t.parts u.parts;
-        spells = (found.0, (u.text, cc (t.spells.0, many_are), subst (λ (n : ℕ). n < 2 ^ 16) (sym many_are) t.spells.1, found.1));
+        spells = (found.0, counted (SpellsAttribute pool) found.0 u.text t.spells found.1 (found.2 ∙ u.spells.1));
         bytes = u.bytes;
       })))
 
@@ -199,11 +204,6 @@ module _ (pool : List PoolEntry) where
           ∙ many_again (skip_attribute size pool) SpellsSkipped (skip_again size) units (items ++ left) items left refl (skipped attributes items spelled)) refl)
 
   -- ---- fields
-
-  named_decided : (name : List ℕ) (text : Option (List ℕ)) → Decides (is_named name text) (text ≡ Some name)
-  named_decided name None = (λ e. absurd (cc), λ h. absurd (cc))
-  named_decided name (Some text) =
-      Decides-like _ (λ (same : name ≡ text). ap Some (sym same)) (λ (is : Some text ≡ Some name). sym (same_Some text name is)) (bytes_eq-Decides name text)
 
   module _ (size : ℕ) (head : ℕ × ℕ × ℕ) where
     abbrev static : Bool
@@ -351,7 +351,7 @@ module _ (pool : List PoolEntry) where
           desc_index = t.spells.desc_index;
           name = t.spells.name;
           desc = t.spells.desc;
-          attributes_spelled = (v.text, cc (u.spells.0, v.spells.2), subst (λ (n : ℕ). n < 2 ^ 16) (sym v.spells.2) u.spells.1, v.spells.1);
+          attributes_spelled = counted (SpellsAttribute pool) v.spells.0 v.text u.spells v.spells.1 v.spells.2;
           constant = subst (HasConstant pool (has_flag static_flag head.0) head.2 v.spells.0) (sym v.spells.3.2) v.spells.3.1;
         };
         bytes = v.bytes;

@@ -9,3 +9,4 @@ pub mod GrammarNumbers
 pub mod GrammarMany
 pub mod GrammarPool
 pub mod GrammarParts
+pub mod GrammarClass
