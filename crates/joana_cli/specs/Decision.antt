@@ -1,5 +1,5 @@
 -- What the decision over a class file and a policy says of the program that they make.
-use Rattle.std.specs.Prelude.{◌≡◌, ◌⊎◌, ℕ, true, false, List, Option, Some, slice_get}
+use Rattle.std.specs.Prelude.{◌≡◌, ◌⊎◌, ℕ, ◌<◌, ◌^◌, true, false, List, length, Option, Some, slice_get}
 use Rattle.class_pool.specs.ClassOrder.{has_flag, native_flag}
 use Rattle.class_pool.specs.ClassGrammar.{IsClass}
 use Rattle.class_pool.specs.declared.classes.ClassFile.{ClassFile}
@@ -11,7 +11,7 @@ use Rattle.jo_prog.specs.Typing.{IsTyped}
 use Rattle.jo_prog.specs.Linking.{program_of}
 use Rattle.jo_prog.specs.declared.program.Program.{Program}
 use Rattle.jo_prog.specs.declared.labels.Labels.{Labels}
-use Rattle.joana_cli.specs.FirstForm.{IsFirstForm, is_of_prelude, is_under_object}
+use Rattle.joana_cli.specs.FirstForm.{IsFirstForm, is_bare, is_of_prelude, is_under_object}
 use Rattle.joana_cli.specs.Words.{accepted_text}
 use Rattle.joana_cli.specs.Outcome.{TookNothing, OutAfterText}
 use Rattle.low_run.specs.Verdict.{CleanForAll, Reports}
@@ -25,7 +25,9 @@ use Rattle.joana_cli.specs.declared.check.Decision.TheVariants.{NotBuilt, Accept
 -- the bytes are a class of its own below java/lang/Object, and this is its program
 pub record MakesProgram (class : List ℕ) (program : Program) : Type 0 where
   pub file : ClassFile
+  pub small : length class < 2 ^ 31
   pub is_class : IsClass class file
+  pub bare : is_bare file ≡ true
   pub own_name : is_of_prelude file ≡ false
   pub superclass : is_under_object file ≡ true
   pub program_is : program ≡ program_of file

@@ -1,12 +1,14 @@
 -- The files that are built: one class in one straight line, with a small policy.
-use Rattle.std.specs.Prelude.{◌≡◌, ◌⊎◌, ℕ, Bool, true, false, List, [], ◌∷◌, Option, Some, IsSome}
-use Rattle.std.specs.List.{list_any}
+use Rattle.std.specs.Prelude.{◌≡◌, ◌⊎◌, ℕ, ◌<◌, ◌^◌, Bool, true, false, ◌&&◌, ◌==◌, List, [], ◌∷◌, length, Option, Some, None, IsSome}
+use Rattle.std.specs.List.{list_any, list_all}
 use Rattle.std.specs.Str.{IsUtf8, bytes_eq}
 use Rattle.toml.specs.Data.{Members}
 use Rattle.toml.specs.Parse.{parse_document}
 use Rattle.class_pool.specs.ClassOrder.{has_flag, native_flag}
 use Rattle.class_pool.specs.ClassGrammar.{IsClass}
 use Rattle.class_pool.specs.declared.classes.ClassFile.{ClassFile}
+use Rattle.class_pool.specs.declared.classes.CodeInfo.{CodeInfo}
+use Rattle.class_pool.specs.declared.classes.MethodInfo.{MethodInfo}
 use Rattle.jo_prog.specs.declared.program.Program.{Program}
 use Rattle.jo_prog.specs.declared.program.Method.{Method}
 use Rattle.jo_prog.specs.declared.labels.Labels.{Labels}
@@ -23,10 +25,21 @@ is_under_object c = bytes_eq (super_name c) object_name
 abbrev pub is_of_prelude : ClassFile → Bool
 is_of_prelude c = list_any (λ name. bytes_eq name (this_name c)) prelude_names
 
--- the bytes of a class and of a policy make this program with these labels
+-- no row catches an exception
+abbrev pub has_no_rows : Option CodeInfo → Bool
+has_no_rows None = true
+has_no_rows (Some code) = length code.rows == 0
+
+-- the class has no interfaces, no fields and no exception rows
+abbrev pub is_bare : ClassFile → Bool
+is_bare c = (length c.interfaces == 0 && length c.fields == 0) && list_all (λ (m : MethodInfo). has_no_rows m.code) c.methods
+
+-- The bytes of a class and of a policy make this program with these labels. The class file has a place for each byte.
 pub record IsFirstForm (class policy : List ℕ) (program : Program) (labels : Labels) : Type 0 where
   pub file : ClassFile
+  pub small : length class < 2 ^ 31
   pub is_class : IsClass class file
+  pub bare : is_bare file ≡ true
   pub own_name : is_of_prelude file ≡ false
   pub superclass : is_under_object file ≡ true
   pub program_is : program ≡ program_of file

@@ -1,15 +1,17 @@
 //! The command `check`: from the bytes of a class file and a policy to the verdict.
-ghost use Rattle.std.specs.Prelude.{◌≡◌, ◌↔◌, IfOk, IfNone, IfSome, IsTrue, unwrap_or, [], map};
+ghost use Rattle.std.specs.Prelude.{◌≡◌, ◌<◌, ◌^◌, ◌↔◌, IfOk, IfNone, IfSome, IsTrue, unwrap_or, [], map, length};
 ghost use Rattle.std.specs.List.{list_any};
 ghost use Rattle.std.specs.Str.{bytes_eq};
 ghost use Rattle.class_pool.specs.Pool.{class_name_at};
+ghost use Rattle.class_pool.specs.ClassGrammar.{IsClass};
+ghost use Rattle.class_pool.specs.declared.classes.ClassFile.{ClassFile as Files};
 ghost use Rattle.jo_prog.specs.declared.program.Program.{Program};
 ghost use Rattle.jo_prog.specs.PlainCode.{IsPlainProgram};
 ghost use Rattle.flow_graph.specs.Building.{HasShortCode};
 ghost use Rattle.joana_cli.specs.Decision.{Decides, MakesProgram, HasOneCode, IsFormOf, IsVerdict};
-ghost use Rattle.joana_cli.specs.FirstForm.{is_of_prelude, is_under_object};
+ghost use Rattle.joana_cli.specs.FirstForm.{has_no_rows, is_bare, is_of_prelude, is_under_object};
 
-use class_pool::{ClassFile, class_name_at};
+use class_pool::{ClassCode, ClassFile, CodeInfo, class_name_at};
 use class_read::read_class;
 use flow_graph::sdg;
 use jo_ids::MethodId;
@@ -19,6 +21,9 @@ use jo_prog::program::{Method, Program};
 use jo_prog::{jvm_typing, linker};
 use low_run::refusal;
 use std::alloc::{AllocError as Memory, Global};
+
+/// How many bytes a class file has at most.
+const LARGEST_FILE: usize = 0x7fff_ffff;
 
 /// The flag ACC_NATIVE of a method.
 const NATIVE: u16 = 0x0100;
@@ -94,15 +99,58 @@ fn is_under_object(file: &ClassFile) -> bool
     name_at(file, file.super_class) == b"java/lang/Object".as_slice()
 }
 
-/// The program of a class file, where the class is one of its own below java/lang/Object.
+/// Whether no row catches an exception.
+fn has_no_rows(body: &Option<CodeInfo>) -> bool
+    ensures { result ≡ has_no_rows body.now }
+{
+    match body {
+        Some(code) => code.rows.as_slice().is_empty(),
+        None => true,
+    }
+}
+
+/// Whether the class has no interfaces, no fields and no exception rows.
+fn is_bare(file: &ClassFile) -> bool
+    ensures { result ≡ is_bare file.now }
+{
+    file.interfaces.as_slice().is_empty()
+        && file.fields.as_slice().is_empty()
+        && file
+            .methods
+            .as_slice()
+            .iter()
+            .all(|method| has_no_rows(&method.code))
+}
+
+/// The class that the bytes are, where they are one and have fewer than 2^31 bytes.
+fn class_file(alloc: Global, class: &[u8]) -> Result<Option<ClassFile>, Memory>
+    ensures class { IfOk result (λ found. IfSome found (λ file. (length class.now < 2 ^ 31) × IsClass class.now file)) }
+    ensures none { IfOk result (λ found. IfNone found ((file : Files) → length class.now < 2 ^ 31 → IsClass class.now file → ⊥)) }
+{
+    if class.len() > LARGEST_FILE {
+        return Ok(None);
+    }
+    match read_class(alloc, class) {
+        Ok(file) => Ok(Some(file)),
+        Err(fault) => match fault.code {
+            ClassCode::Memory => Err(Memory),
+            _ => Ok(None),
+        },
+    }
+}
+
+/// The program of a class file, where the class is one of its own below java/lang/Object with methods alone.
 fn program_of(alloc: Global, class: &[u8]) -> Result<Option<Program>, Memory>
     ensures program { IfOk result (λ found. IfSome found (MakesProgram class.now)) }
     ensures none { IfOk result (λ found. IfNone found ((program : Program) → MakesProgram class.now program → ⊥)) }
 {
-    let file = match read_class(alloc, class)? {
+    let file = match class_file(alloc, class)? {
         Some(file) => file,
         None => return Ok(None),
     };
+    if !is_bare(&file) {
+        return Ok(None);
+    }
     if is_of_prelude(&file) {
         return Ok(None);
     }
