@@ -1,5 +1,5 @@
 -- The whole class: what is read is spelled so, and what is spelled so is read.
-use Rattle.std.proofs.Common.{◌≡◌, ◌↔◌, ℕ, ◌+◌, ◌^◌, ◌<◌, ◌≤◌, nat_le, Bool, true, ◌&&◌, ◌==◌, List, [], ◌∷◌, ◌++◌, length, Result, Ok, refl, sym, ap, subst, ◌∙◌, append_assoc, arith}
+use Rattle.std.proofs.Common.{◌≡◌, ◌↔◌, ℕ, ◌+◌, ◌^◌, ◌<◌, ◌≤◌, nat_le, true, ◌&&◌, ◌==◌, List, [], ◌++◌, length, Ok, refl, sym, ap, subst, ◌∙◌, append_assoc, arith}
 use Rattle.std.specs.List.{AllByRecursion}
 use Rattle.std.proofs.lemmas.Bool.{and_parts, and_from, eqb-true, leb-true, le-leb}
 use Rattle.std.proofs.lemmas.List.{append-nil, nil_from_length}
@@ -8,7 +8,7 @@ use Rattle.class_pool.specs.declared.entries.PoolEntry.{PoolEntry}
 use Rattle.class_pool.specs.declared.classes.ClassFile.{ClassFile}
 use Rattle.class_pool.specs.ClassOrder.{class_index, skip_attributes, read_field, read_method, read_behind, class_of}
 use Rattle.class_pool.specs.ClassGrammar.{u2, u4, SpellsCounted, AreAttributes, SpellsField, SpellsMethod, IsClassIndex, SpellsClassIndex, IsClass}
-use Rattle.class_pool.proofs.GrammarNumbers.{Takes, Yields, IsReadAs, yields, yields_more, after, ends, then_read, when, joined, split, step, pass, number_read, number_again}
+use Rattle.class_pool.proofs.GrammarNumbers.{Takes, Yields, yields, yields_more, after, ends, then_read, when, joined, step, pass, number_read, number_again}
 use Rattle.class_pool.proofs.GrammarMany.{counted_read, counted_again}
 use Rattle.class_pool.proofs.GrammarPool.{SpellsPool, pool_read, pool_again}
 use Rattle.class_pool.proofs.GrammarParts.{class_index_read, class_index_again, attributes_read, attributes_again, field_read, field_again}
@@ -117,14 +117,14 @@ class_read file bytes =
     then_read _ (number_read size 4 file bytes) (λ magic r2 t1.
     then_read {Spells = λ version text. (magic ≡ 0xcafebabe) × SpellsVersion version text} {rest = r2} _
     (when (magic == 0xcafebabe) _ _ (λ is.
-        then_read _ (number_read size 2 r2 t1.bytes) (λ minor middle t.
-        then_read _ (number_read size 2 middle t.bytes) (λ major left u.
-        when (nat_le 45 major && nat_le major 52) _ _ (λ known. ends (record {
-          text = t.text ++ u.text;
-          parts = joined _ _ _ t.parts u.parts;
-          spells = (eqb-true magic 0xcafebabe is, (cc (t.spells.0, u.spells.0), t.spells.1, within major known));
-          bytes = u.bytes;
-        })))))) (λ version r3 t2.
+    then_read _ (number_read size 2 r2 t1.bytes) (λ minor middle t.
+    then_read _ (number_read size 2 middle t.bytes) (λ major left u.
+    when (nat_le 45 major && nat_le major 52) _ _ (λ known. ends (record {
+      text = t.text ++ u.text;
+      parts = joined _ _ _ t.parts u.parts;
+      spells = (eqb-true magic 0xcafebabe is, (cc (t.spells.0, u.spells.0), t.spells.1, within major known));
+      bytes = u.bytes;
+    })))))) (λ version r3 t2.
     then_read _ (pool_read size r3 t2.bytes) (λ pool r4 t3.
     let front : file ≡ u4 0xcafebabe ++ r2 = cc (t1.parts, t1.spells.0, t2.spells.0) in
     let behind_magic : Takes SpellsVersion r2 version r3 = record { text = t2.text; parts = t2.parts; spells = t2.spells.1; bytes = t2.bytes } in

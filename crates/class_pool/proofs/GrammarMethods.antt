@@ -1,17 +1,15 @@
 -- Methods and the codes among their attributes: what is read is spelled so, and what is spelled so is read.
-use Rattle.std.proofs.Common.{◌≡◌, inl, inr, ℕ, zero, suc, ◌+◌, ◌^◌, ◌<◌, Bool, true, false, ◌&&◌, ◌||◌, not, if◌then◌else◌, ◌==◌, nat_lt, List, [], ◌∷◌, ◌++◌, length, Option, Some, None, Result, Ok, Err, refl, sym, ap, subst, ◌∙◌, append_assoc, arith}
+use Rattle.std.proofs.Common.{◌≡◌, inl, inr, ℕ, zero, suc, ◌+◌, Bool, true, false, ◌&&◌, ◌||◌, not, if◌then◌else◌, ◌==◌, nat_lt, List, [], ◌∷◌, ◌++◌, length, Option, Some, None, Ok, refl, ap, subst, ◌∙◌, arith}
 use Rattle.std.specs.Prelude.{codes}
 use Rattle.std.specs.Bool.{Decides}
 use Rattle.std.proofs.Math.Bool.{or-true, or-false}
 use Rattle.std.proofs.lemmas.Bool.{false_from_ne_true, eqb-true, not-true, or_cases, or_parts}
 use Rattle.std.proofs.lemmas.Bool.Decides.{not_from_Decides}
-use Rattle.std.proofs.lemmas.Slice.Eq.{bytes_eq-Decides}
 use Rattle.jo_insn.proofs.Numbers.{AreBytes}
 use Rattle.class_pool.specs.declared.entries.PoolEntry.{PoolEntry}
 use Rattle.class_pool.specs.declared.classes.CodeInfo.{CodeInfo}
 use Rattle.class_pool.specs.declared.classes.MemberKind.TheVariants.{Method}
 use Rattle.class_pool.specs.declared.faults.ClassCode.{ClassCode}
-use Rattle.class_pool.specs.declared.faults.ClassFault.{ClassFault}
 use Rattle.class_pool.specs.Items.{place_of, bytes_of}
 use Rattle.class_pool.specs.Pool.{utf8_at, first_failing}
 use Rattle.class_pool.specs.Code.{is_wide_desc}

@@ -1,5 +1,5 @@
 -- Numbers and runs of bytes: what is read is spelled so, and what is spelled so is read, whatever follows.
-use Rattle.std.proofs.Common.{◌≡◌, ℕ, ◌+◌, ◌*◌, ◌^◌, ◌<◌, ◌≤◌, nat_lt, Bool, true, false, if◌then◌else◌, List, [], ◌∷◌, ◌++◌, length, take, drop, Result, Ok, Err, refl, sym, ap, subst, ◌∙◌, append_assoc, arith}
+use Rattle.std.proofs.Common.{◌≡◌, ℕ, ◌^◌, ◌<◌, ◌≤◌, Bool, true, false, if◌then◌else◌, List, ◌++◌, length, take, Result, Ok, Err, refl, sym, ap, subst, ◌∙◌, append_assoc, arith}
 use Rattle.std.proofs.lemmas.Bool.{ltb-false, le-ltb}
 use Rattle.std.proofs.lemmas.List.{take_at, drop_at, take-append-drop, length-append, length-take-le}
 use Rattle.byteorder.specs.Endian.{big_bytes, big_number}
@@ -7,7 +7,7 @@ use Rattle.byteorder.specs.Numbers.{big_from-lt, big_number-reads_back, length-b
 use Rattle.jo_insn.proofs.Numbers.{AreBytes, bytes_behind, bytes_of_number}
 use Rattle.class_pool.specs.declared.faults.ClassCode.{ClassCode}
 use Rattle.class_pool.specs.declared.faults.ClassFault.{ClassFault}
-use Rattle.class_pool.specs.Items.{◌>>=◌, fault, passing, number, bytes_of, two_numbers}
+use Rattle.class_pool.specs.Items.{◌>>=◌, passing, number, bytes_of, two_numbers}
 use Rattle.class_pool.specs.ClassGrammar.{u2}
 
 -- ---- what is shown of a reader

@@ -1,9 +1,9 @@
 -- Indices, heads, attributes and fields: what is read is spelled so, and what is spelled so is read.
-use Rattle.std.proofs.Common.{◌≡◌, ◌⊎◌, ℕ, zero, suc, ◌+◌, ◌-◌, ◌*◌, ◌^◌, ◌<◌, ◌≤◌, Bool, true, false, ◌&&◌, ◌==◌, not, if◌then◌else◌, List, [], ◌∷◌, ◌++◌, length, drop, map, Option, Some, None, Result, Ok, Err, refl, sym, ap, subst, ◌∙◌, append_assoc, inl, inr, arith}
+use Rattle.std.proofs.Common.{◌≡◌, ◌⊎◌, ℕ, zero, suc, ◌^◌, ◌<◌, Bool, true, false, ◌&&◌, ◌==◌, List, [], ◌∷◌, ◌++◌, length, map, Option, Some, None, Result, Ok, refl, sym, ap, subst, ◌∙◌, inl, inr}
 use Rattle.std.specs.Prelude.{IsSomeAnd, codes}
 use Rattle.std.specs.Bool.{Decides}
-use Rattle.std.proofs.lemmas.Bool.{eqb-true, false_from_ne_true, true≢false, and_parts, and_from}
-use Rattle.std.proofs.lemmas.Bool.Decides.{nat_tests, Decides-eqb, Decides-and, Decides-like, not_from_Decides}
+use Rattle.std.proofs.lemmas.Bool.{eqb-true, false_from_ne_true, true≢false, and_parts}
+use Rattle.std.proofs.lemmas.Bool.Decides.{Decides-eqb, Decides-and, Decides-like, not_from_Decides}
 use Rattle.std.proofs.lemmas.List.{length-map}
 use Rattle.std.proofs.lemmas.Option.{same_Some}
 use Rattle.std.proofs.lemmas.Slice.Eq.{bytes_eq-Decides}
@@ -14,15 +14,14 @@ use Rattle.jo_text.proofs.TestLaws.{field_decided, method_decided, member_decide
 use Rattle.class_pool.specs.declared.entries.PoolEntry.{PoolEntry}
 use Rattle.class_pool.specs.declared.classes.MemberKind.{MemberKind}
 use Rattle.class_pool.specs.declared.classes.MemberKind.TheVariants.{Field, Method}
-use Rattle.class_pool.specs.declared.classes.FieldInfo.{FieldInfo}
 use Rattle.class_pool.specs.declared.faults.ClassFault.{ClassFault}
-use Rattle.class_pool.specs.Items.{◌>>=◌, place_of, passing, number, bytes_of, many}
+use Rattle.class_pool.specs.Items.{◌>>=◌, place_of, number, bytes_of, many}
 use Rattle.class_pool.specs.Pool.{entry_at, utf8_at, class_name_at, is_text, is_text_that}
 use Rattle.class_pool.specs.Code.{dims_of, has_dims_that, dims_at}
 use Rattle.class_pool.specs.ClassOrder
 use Rattle.class_pool.specs.ClassOrder.{has_flag, static_flag, class_index, text_index, fits_kind, read_head, skip_attribute, skip_attributes, is_named, fits_constant, field_attribute, field_attributes, read_field}
-use Rattle.class_pool.specs.ClassGrammar.{u2, u4, SpellsEach, SpellsCounted, Attribute, SpellsAttribute, SpellsAttributes, AreAttributes, IsConstantValue, HasConstant, no_constant, not_constant, constant_value, SpellsField, IsClassIndex, SpellsClassIndex}
-use Rattle.class_pool.proofs.GrammarNumbers.{Takes, Yields, IsReadAs, yields, by_answer, ends, fails, then_read, when, either, joined, split, step, pass, SpellsNumber, number_read, number_again, SpellsBytes, bytes_read, bytes_again}
+use Rattle.class_pool.specs.ClassGrammar.{u2, u4, SpellsEach, Attribute, SpellsAttribute, AreAttributes, IsConstantValue, HasConstant, no_constant, not_constant, constant_value, SpellsField, SpellsClassIndex}
+use Rattle.class_pool.proofs.GrammarNumbers.{Takes, Yields, yields, by_answer, ends, fails, then_read, when, either, joined, split, step, pass, number_read, number_again, SpellsBytes, bytes_read, bytes_again}
 use Rattle.class_pool.proofs.GrammarMany.{EachIsSpelled, EachIsRead, counted, many_read, many_again}
 use Rattle.class_pool.proofs.GrammarPool.{text_decided, there, there_decided}
 
@@ -201,7 +200,7 @@ module _ (pool : List PoolEntry) where
       let units : List (Unit {0}) = map (λ _. tt) attributes in
       step _ (number_again size 2 (length attributes) (items ++ left) (split (u2 (length attributes)) items left parts both) few)
       (step _ (ap (λ (n : ℕ). many (skip_attribute size pool) n (items ++ left)) (sym (length-map attributes (λ _. tt)))
-          ∙ many_again (skip_attribute size pool) SpellsSkipped (skip_again size) units (items ++ left) items left refl (skipped attributes items spelled)) refl)
+      ∙ many_again (skip_attribute size pool) SpellsSkipped (skip_again size) units (items ++ left) items left refl (skipped attributes items spelled)) refl)
 
   -- ---- fields
 
@@ -250,12 +249,14 @@ module _ (pool : List PoolEntry) where
     unfolding field_attribute
     field_attribute_read known rest bytes = attribute_head_read size _ rest bytes (λ name count middle left t.
         either (static && is_named (codes "ConstantValue") (utf8_at pool name))
-        (λ is. record { takes = λ r given. let u = (constant_read name known (place_of size middle) count left t.bytes).takes r given in record {
-          text = t.text ++ u.text;
-          parts = joined _ _ _ t.parts u.parts;
-          spells = (record { name = name; content = u.text }, attribute_of t.spells (refl, u.spells.0), inr ((is_constant name).0 is, u.spells.1, u.spells.2));
-          bytes = u.bytes;
-        } })
+        (λ is. record {
+          takes = λ r given. let u = (constant_read name known (place_of size middle) count left t.bytes).takes r given in record {
+            text = t.text ++ u.text;
+            parts = joined _ _ _ t.parts u.parts;
+            spells = (record { name = name; content = u.text }, attribute_of t.spells (refl, u.spells.0), inr ((is_constant name).0 is, u.spells.1, u.spells.2));
+            bytes = u.bytes;
+          };
+        })
         (λ other. by_answer (bytes_of size count left) (λ f failed. rw failed fails) (λ content given.
         let u = (bytes_read size count left t.bytes).takes content given in
         rw given (ends (record {
@@ -312,12 +313,14 @@ module _ (pool : List PoolEntry) where
         known_joins (Some index) = (refl, refl)
     field_attributes_read (suc n) known rest bytes =
         then_read _ (field_attribute_read known rest bytes) (λ next middle t.
-        let others = field_attributes_read n next middle t.bytes in record { takes = λ r is. let u = others.takes r is in record {
-          text = t.text ++ u.text;
-          parts = joined _ _ _ t.parts u.parts;
-          spells = (t.spells.0 ∷ u.spells.0, (t.text, u.text, refl, t.spells.1, u.spells.1), ap suc u.spells.2, one_more known next r.0 t.spells.0 u.spells.0 t.spells.2 u.spells.3);
-          bytes = u.bytes;
-        } })
+        let others = field_attributes_read n next middle t.bytes in record {
+          takes = λ r is. let u = others.takes r is in record {
+            text = t.text ++ u.text;
+            parts = joined _ _ _ t.parts u.parts;
+            spells = (t.spells.0 ∷ u.spells.0, (t.text, u.text, refl, t.spells.1, u.spells.1), ap suc u.spells.2, one_more known next r.0 t.spells.0 u.spells.0 t.spells.2 u.spells.3);
+            bytes = u.bytes;
+          };
+        })
 
     field_attributes_again : {attributes : List Attribute} {constant : Option ℕ} → Constant attributes constant → (known told : Option ℕ) → Joins known constant told → (rest text left : List ℕ) → rest ≡ text ++ left
         → SpellsEach (SpellsAttribute pool) attributes text → field_attributes size pool head (length attributes) known rest ≡ Ok (told, left)

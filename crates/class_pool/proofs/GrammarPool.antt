@@ -1,5 +1,5 @@
 -- The constant pool: what is read is spelled so and refers well, and what is spelled so and refers well is read.
-use Rattle.std.proofs.Common.{◌≡◌, ◌⊎◌, ◌↔◌, ℕ, zero, suc, ◌+◌, ◌-◌, ◌*◌, ◌^◌, ◌<◌, ◌≤◌, Bool, true, false, ◌&&◌, ◌||◌, ◌==◌, not, if◌then◌else◌, ℤ, List, [], ◌∷◌, ◌++◌, length, drop, Option, Some, None, Result, Ok, Err, refl, sym, ap, subst, ◌∙◌, append_assoc, inl, inr, arith}
+use Rattle.std.proofs.Common.{◌≡◌, ◌⊎◌, ◌↔◌, ℕ, zero, suc, ◌+◌, ◌-◌, ◌^◌, ◌<◌, Bool, true, false, ◌||◌, ◌==◌, not, if◌then◌else◌, ℤ, List, [], ◌∷◌, ◌++◌, length, drop, Option, Some, None, Result, Ok, refl, sym, ap, subst, ◌∙◌, arith}
 use Rattle.std.specs.Prelude.{IsSomeAnd}
 use Rattle.std.specs.Bool.{Decides}
 use Rattle.std.specs.Int.{w32, cast_unsigned}
@@ -8,24 +8,24 @@ use Rattle.std.specs.List.{AllByRecursion}
 use Rattle.std.proofs.Math.Facts.{Fits-of_z}
 use Rattle.std.proofs.Math.Nat.{mod-eq_of_lt}
 use Rattle.std.proofs.lemmas.Bool.{eqb-true, true≢false, and_parts, and_from}
-use Rattle.std.proofs.lemmas.Bool.Decides.{nat_tests, Decides-and, Decides-or, Decides-like}
-use Rattle.byteorder.specs.Endian.{big_bytes, big_number, twos_complement}
+use Rattle.std.proofs.lemmas.Bool.Decides.{nat_tests, Decides-and, Decides-or}
+use Rattle.byteorder.specs.Endian.{big_bytes, twos_complement}
 use Rattle.jo_insn.specs.declared.instructions.InsnFault.{InsnFault}
 use Rattle.jo_insn.specs.Instructions
 use Rattle.jo_insn.specs.Instructions.{signed_in}
 use Rattle.jo_insn.proofs.Numbers.{AreBytes, number_in_bytes, signed_in_bytes, signed_read}
 use Rattle.jo_text.specs.Descriptors.{IsMemberName, IsFieldDesc, IsMethodDesc, IsClassOrArray}
 use Rattle.jo_text.specs.Mutf8.{IsMutf8}
-use Rattle.jo_text.specs.Tests.{is_mutf8, is_member_name, is_class_or_array, is_field_desc, is_method_desc}
+use Rattle.jo_text.specs.Tests.{is_mutf8, is_field_desc, is_method_desc}
 use Rattle.jo_text.proofs.TestLaws.{field_decided, method_decided, member_decided, class_or_array_decided, mutf8_decided}
 use Rattle.class_pool.specs.declared.entries.PoolEntry.{PoolEntry}
 use Rattle.class_pool.specs.declared.entries.PoolEntry.TheVariants.{Second, Utf8, Integer, Float, Long, Double, Class, Text, FieldRef, MethodRef, InterfaceMethodRef, NameAndType, MethodHandle, MethodType, InvokeDynamic}
 use Rattle.class_pool.specs.declared.faults.ClassCode.{ClassCode}
 use Rattle.class_pool.specs.declared.faults.ClassFault.{ClassFault}
-use Rattle.class_pool.specs.Items.{◌>>=◌, place_of, fault, passing, number, bytes_of, two_numbers}
+use Rattle.class_pool.specs.Items.{place_of, fault}
 use Rattle.class_pool.specs.Pool.{entry_at, utf8_at, desc_of, desc_at, is_double, read_utf8, read_one, read_pair, read_handle, read_indices, read_tagged, read_entry, owed_by, read_entries, is_text, is_text_that, is_class, is_name_and_type, questions, member_questions, first_failing, entry_size, reference_fault, unless_fault, read_pool_from}
 use Rattle.class_pool.specs.ClassGrammar.{u1, u2, u4, SpellsEntry, SpellsEntries, no_entry, single, twofold, IsClassEntry, RefersWell}
-use Rattle.class_pool.proofs.GrammarNumbers.{Takes, IsReadAs, ends, fails, then_read, when, either, joined, split, step, pass, reads_more, SpellsNumber, number_read, number_again, SpellsTwo, two_read, two_again, SpellsBytes, bytes_read, bytes_again}
+use Rattle.class_pool.proofs.GrammarNumbers.{IsReadAs, ends, fails, then_read, when, either, joined, split, step, pass, reads_more, number_read, number_again, two_read, two_again, bytes_read, bytes_again}
 
 -- ---- entries
 
@@ -128,12 +128,14 @@ module _ (size : ℕ) (rest : List ℕ) (bytes : AreBytes rest) where
 pub entry_read : (size : ℕ) (rest : List ℕ) → AreBytes rest → IsReadAs SpellsEntry rest (read_entry size rest)
 unfolding read_entry
 entry_read size rest bytes =
-    then_read _ (number_read size 1 rest bytes) (λ tag middle t. let more = tagged_read size middle t.bytes (place_of size rest) tag in record { takes = λ r is. let u = more.takes r is in record {
-      text = tag ∷ u.text;
-      parts = t.parts ∙ ap (λ (b : List ℕ). b ++ middle) (t.spells.0 ∙ one_byte tag t.spells.1) ∙ ap (λ (m : List ℕ). tag ∷ m) u.parts;
-      spells = u.spells;
-      bytes = u.bytes;
-    } })
+    then_read _ (number_read size 1 rest bytes) (λ tag middle t. let more = tagged_read size middle t.bytes (place_of size rest) tag in record {
+      takes = λ r is. let u = more.takes r is in record {
+        text = tag ∷ u.text;
+        parts = t.parts ∙ ap (λ (b : List ℕ). b ++ middle) (t.spells.0 ∙ one_byte tag t.spells.1) ∙ ap (λ (m : List ℕ). tag ∷ m) u.parts;
+        spells = u.spells;
+        bytes = u.bytes;
+      };
+    })
 
 module _ (size : ℕ) where
   tag_again : (tag : ℕ) (entry : PoolEntry) {rest text : List ℕ} (spelled left : List ℕ) → tag < 256 → rest ≡ text ++ left → text ≡ tag ∷ spelled
