@@ -1,3 +1,4 @@
 pub mod Many
 mod PoolEntries
+pub mod PoolFits
 pub mod PoolStops
