@@ -1,5 +1,6 @@
 pub mod Many
 mod PoolEntries
+pub mod PoolFits
 pub mod PoolStops
 pub mod GrammarInsns
 pub mod GrammarJumps

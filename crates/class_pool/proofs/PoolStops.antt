@@ -1,5 +1,5 @@
 -- What a public reader answers where an inner one stops.
-use Rattle.std.proofs.Common.{ℕ, Result, Ok, Err}
+use Rattle.std.proofs.Common.{Result, Err}
 use Rattle.class_pool.specs.declared.faults.ClassCode.TheVariants as codes
 use Rattle.class_pool.specs.declared.faults.ClassCode.{ClassCode}
 use Rattle.class_pool.specs.declared.faults.ClassFault.{ClassFault}

@@ -2,7 +2,7 @@
 use std::alloc::AllocError;
 
 /// What the profile cuts.
-#[derive(Clone, Copy)]
+#[derive(Clone, Copy, Debug, PartialEq, Eq)]
 pub enum Cut {
     /// An opcode that the profile leaves out, or what this opcode asks for.
     Opcode(u8),
@@ -15,7 +15,7 @@ pub enum Cut {
 }
 
 /// The kind of a fault.
-#[derive(Clone, Copy)]
+#[derive(Clone, Copy, Debug, PartialEq, Eq)]
 pub enum ClassCode {
     /// An item's bytes aren't all there.
     Truncated,

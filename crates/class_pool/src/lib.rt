@@ -9,6 +9,8 @@ pub mod items;
 pub mod laws;
 mod reader;
 mod references;
+#[cfg(test)]
+mod tests;
 mod writer;
 
 pub use classes::{ClassFile, CodeInfo, FieldInfo, MemberKind, MethodInfo, RowInfo};
