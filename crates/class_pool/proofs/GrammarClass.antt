@@ -1,11 +1,12 @@
 -- The whole class: what is read is spelled so, and what is spelled so is read.
-use Rattle.std.proofs.Common.{◌≡◌, ◌↔◌, ℕ, ◌+◌, ◌^◌, ◌<◌, ◌≤◌, nat_le, true, ◌&&◌, ◌==◌, List, [], ◌++◌, length, Ok, refl, sym, ap, subst, ◌∙◌, append_assoc, arith}
+use Rattle.std.proofs.Common.{◌≡◌, ◌↔◌, ℕ, ◌+◌, ◌^◌, ◌<◌, ◌≤◌, nat_le, true, ◌&&◌, ◌==◌, List, [], ◌++◌, length, Result, Ok, Err, refl, sym, ap, subst, ◌∙◌, append_assoc, arith}
 use Rattle.std.specs.List.{AllByRecursion}
 use Rattle.std.proofs.lemmas.Bool.{and_parts, and_from, eqb-true, leb-true, le-leb}
 use Rattle.std.proofs.lemmas.List.{append-nil, nil_from_length}
 use Rattle.jo_insn.proofs.Numbers.{AreBytes, are_bytes}
 use Rattle.class_pool.specs.declared.entries.PoolEntry.{PoolEntry}
 use Rattle.class_pool.specs.declared.classes.ClassFile.{ClassFile}
+use Rattle.class_pool.specs.declared.faults.ClassFault.{ClassFault}
 use Rattle.class_pool.specs.ClassOrder.{class_index, skip_attributes, read_field, read_method, read_behind, class_of}
 use Rattle.class_pool.specs.ClassGrammar.{u2, u4, SpellsCounted, AreAttributes, SpellsField, SpellsMethod, IsClassIndex, SpellsClassIndex, IsClass}
 use Rattle.class_pool.proofs.GrammarNumbers.{Takes, Yields, yields, yields_more, after, ends, then_read, when, joined, step, pass, number_read, number_again}
@@ -160,7 +161,7 @@ module _ (file : List ℕ) (c : ClassFile) (h : IsClass file c) where
       (counted_again (read_method size c.pool) (SpellsMethod c.pool) (method_again size c.pool) size c.methods behind_fields h.method_bytes h.attribute_bytes _ refl h.methods
       (step _ (attributes_again c.pool size h.attribute_bytes h.attribute_bytes [] (sym (append-nil _)) h.attributes) refl))))))
 
-  class_again : class_of file ≡ Ok c
+  pub class_again : class_of file ≡ Ok c
   unfolding class_of
   class_again =
       let size : ℕ = length file in
@@ -176,3 +177,15 @@ module _ (file : List ℕ) (c : ClassFile) (h : IsClass file c) where
 
 pub reading_is_the_grammar : (file : List ℕ) (class : ClassFile) → AllByRecursion (λ byte. byte < 2 ^ 8) file → (class_of file ≡ Ok class) ↔ IsClass file class
 reading_is_the_grammar file class all = ((class_read file (are_bytes file all)).takes class, class_again file class)
+
+abbrev read_or : ClassFile → Result ClassFile ClassFault → ClassFile
+read_or other (Ok class) = class
+read_or other (Err fault) = other
+
+-- bytes are those of at most one class
+pub one_class : (file : List ℕ) (one other : ClassFile) → IsClass file one → IsClass file other → one ≡ other
+one_class file one other h k = ap (read_or one) (sym (class_again file one h) ∙ class_again file other k)
+
+-- a file with a fault is that of no class
+pub no_class : (file : List ℕ) (f : ClassFault) → class_of file ≡ Err f → (class : ClassFile) → IsClass file class → ⊥
+no_class file f failed class h = let wrong : Ok class ≡ Err f = sym (class_again file class h) ∙ failed in absurd (cc)

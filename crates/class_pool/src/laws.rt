@@ -9,3 +9,8 @@ ghost use Rattle.class_pool.specs.declared.classes.ClassFile.{ClassFile};
 pub fn reading_is_the_grammar()
     ensures { (file : List ℕ) (class : ClassFile) → AllByRecursion (λ byte. byte < 2 ^ 8) file → (class_of file ≡ Ok class) ↔ IsClass file class }
 {}
+
+/// Bytes are those of at most one class.
+pub fn one_class()
+    ensures { (file : List ℕ) (one other : ClassFile) → IsClass file one → IsClass file other → one ≡ other }
+{}
