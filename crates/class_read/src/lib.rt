@@ -9,3 +9,6 @@ mod methods;
 mod parts;
 
 pub use class::read_class;
+
+#[cfg(test)]
+mod tests;

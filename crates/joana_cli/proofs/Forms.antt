@@ -1,32 +1,40 @@
 -- What the parts of the decision say of the first form.
-use Rattle.std.proofs.Common.{◌≡◌, ◌∙◌, ℕ, zero, suc, ◌<◌, ◌^◌, true, false, not, ◌==◌, List, [], ◌∷◌, length, get_or, Option, Some, None, option_map, option_and_then, slice_get, bit_and, refl, sym, ap, subst, arith}
+use Rattle.std.proofs.Common.{◌≡◌, ◌∙◌, ℕ, zero, suc, ◌<◌, ◌^◌, Bool, true, false, cond, not, nat_lt, ◌==◌, List, [], ◌∷◌, length, get_or, Option, Some, None, option_map, option_and_then, slice_get, bit_and, refl, sym, ap, subst, arith}
 use Rattle.std.proofs.lemmas.List.{length-map}
-use Rattle.std.proofs.lemmas.Option.{slice_get_read, slice_get-map, same_Some}
+use Rattle.std.proofs.lemmas.Bool.{ltb-true}
+use Rattle.std.proofs.lemmas.Option.{none-some, slice_get_read, slice_get-map, same_Some}
 use Rattle.std.specs.Str.{IsUtf8}
 use Rattle.toml.specs.Data.{Members}
 use Rattle.toml.specs.Parse.{parse_document}
 use Rattle.class_pool.specs.ClassGrammar.{SpellsEach}
 use Rattle.class_pool.specs.ClassOrder.{has_flag, native_flag}
-use Rattle.class_pool.specs.ClassGrammar.{IsClass, SpellsMethod, SpellsBody}
+use Rattle.class_pool.specs.ClassGrammar.{IsClass, SpellsMethod, SpellsCode, Attribute, HasCodes, no_code, not_code, code_attribute, codes_in}
 use Rattle.class_pool.specs.declared.entries.PoolEntry.{PoolEntry}
 use Rattle.class_pool.specs.declared.classes.ClassFile.{ClassFile}
 use Rattle.class_pool.specs.declared.classes.MethodInfo.{MethodInfo}
 use Rattle.class_pool.specs.declared.classes.CodeInfo.{CodeInfo}
-use Rattle.class_read.proofs.ClassLemmas.{one_class}
+use Rattle.class_pool.proofs.GrammarClass.{one_class}
 use Rattle.jo_prog.specs.declared.program.Program.{Program}
 use Rattle.jo_prog.specs.declared.program.Method.{Method}
 use Rattle.jo_prog.specs.declared.program.Code.{Code}
 use Rattle.jo_prog.specs.declared.labels.Labels.{Labels}
-use Rattle.jo_prog.specs.Program.{code_at}
+use Rattle.jo_insn.specs.Instructions.{decoded}
+use Rattle.jo_prog.specs.declared.operations.Operation.{Operation}
+use Rattle.jo_prog.specs.declared.operations.Operation.TheVariants.{Return}
+use Rattle.jo_prog.specs.Program.{code_at, as_operation, operation_in, operation_at}
 use Rattle.jo_prog.specs.Linking.{program_of, method_of, code_of}
 use Rattle.jo_prog.specs.Typing.{IsTypedCode}
-use Rattle.jo_prog.specs.PlainCode.{IsWellLabelled, IsPlainProgram}
+use Rattle.jo_prog.specs.PlainCode.{IsWellLabelled, IsPlainProgram, IsPlainFrom, last, then}
 use Rattle.flow_graph.specs.Building.{HasShortCode}
 use Rattle.jo_policy.specs.PolicyFile.{policy_of}
 use Rattle.joana_cli.specs.Decision.{MakesProgram, IsFormOf, IsVerdict, Decides}
 use Rattle.joana_cli.specs.declared.check.Decision.{Decision}
 use Rattle.joana_cli.specs.declared.check.Decision.TheVariants.{NotBuilt, Accepted, Refused}
-use Rattle.joana_cli.specs.FirstForm.{is_of_prelude, is_under_object, IsFirstForm}
+use Rattle.class_pool.specs.declared.faults.ClassCode.{ClassCode}
+use Rattle.class_pool.specs.declared.faults.ClassCode.TheVariants.{Truncated, Magic, Version, PoolTag, PoolIndex, BadText, BadDescriptor, CodeBounds, BadOpcode, Trailing, Unsupported, Memory as OutOfMemory}
+use Rattle.class_pool.specs.declared.faults.ClassFault.{ClassFault}
+use Rattle.class_read.specs.Faults.{IsFaultBy}
+use Rattle.joana_cli.specs.FirstForm.{is_bare, is_of_prelude, is_under_object, IsFirstForm}
 use Rattle.low_run.proofs.Verdicts.{true_not_false}
 
 pub read_at : {X : Type 0} (xs : List X) (i : ℕ) (x : X) → i < length xs → x ≡ get_or xs i x → slice_get xs i ≡ Some x
@@ -39,10 +47,21 @@ lacks_native flags none set =
     true_not_false (sym set ∙ ap not zero_is)
 
 pub few_methods : (bytes : List ℕ) (file : ClassFile) → IsClass bytes file → length file.methods < 2 ^ 32
-few_methods bytes file is = omega (arith, is.methods_length)
+few_methods bytes file is = omega (arith, is.methods.2)
 
-pub no_program : (bytes : List ℕ) → ((file : ClassFile) → IsClass bytes file → ⊥) → (program : Program) → MakesProgram bytes program → ⊥
-no_program bytes none program m = none m.file m.is_class
+-- memory wasn't wanting, so the fault is the file's
+pub fault_of_file : (bytes : List ℕ) (code : ClassCode) (fault : ClassFault) → (code ≡ OutOfMemory → ⊥) → IsFaultBy code bytes fault → (file : ClassFile) → IsClass bytes file → ⊥
+fault_of_file bytes OutOfMemory fault not_memory is = absurd (not_memory refl)
+fault_of_file bytes _ fault not_memory is = is.1
+
+pub too_large : (bytes : List ℕ) → 2147483647 < length bytes → (file : ClassFile) → length bytes < 2 ^ 31 → IsClass bytes file → ⊥
+too_large bytes large file small is = omega arith
+
+pub no_program : (bytes : List ℕ) → ((file : ClassFile) → length bytes < 2 ^ 31 → IsClass bytes file → ⊥) → (program : Program) → MakesProgram bytes program → ⊥
+no_program bytes none program m = none m.file m.small m.is_class
+
+pub not_bare : (bytes : List ℕ) (file : ClassFile) → IsClass bytes file → false ≡ is_bare file → (program : Program) → MakesProgram bytes program → ⊥
+not_bare bytes file is of program m = true_not_false (sym m.bare ∙ (ap is_bare (one_class bytes m.file file m.is_class is) ∙ sym of))
 
 -- the class of the bytes is the one that was read
 pub wrong_name : (bytes : List ℕ) (file : ClassFile) → IsClass bytes file → true ≡ is_of_prelude file → (program : Program) → MakesProgram bytes program → ⊥
@@ -66,7 +85,7 @@ one_policy policy program l m a b =
     same_Some l m (sym a.1.2 ∙ (ap (λ t. policy_of t program) same ∙ b.1.2))
 
 pub makes_of : (class policy : List ℕ) (program : Program) (labels : Labels) → IsFirstForm class policy program labels → MakesProgram class program
-makes_of class policy program labels f = record { file = f.file; is_class = f.is_class; own_name = f.own_name; superclass = f.superclass; program_is = f.program_is }
+makes_of class policy program labels f = record { file = f.file; small = f.small; is_class = f.is_class; bare = f.bare; own_name = f.own_name; superclass = f.superclass; program_is = f.program_is }
 
 pub labelled_of_form : (class policy : List ℕ) (program : Program) (labels : Labels) → IsFirstForm class policy program labels → Labelled policy program labels
 labelled_of_form class policy program labels f = (f.text, (f.tree, f.parsed, f.labels_are))
@@ -93,7 +112,9 @@ pub first_form : (class policy : List ℕ) (program : Program) (labels : Labels)
     → IsFirstForm class policy program labels
 first_form class policy program labels m l well f = record {
   file = m.file;
+  small = m.small;
   is_class = m.is_class;
+  bare = m.bare;
   own_name = m.own_name;
   superclass = m.superclass;
   program_is = m.program_is;
@@ -136,36 +157,63 @@ methods_spelled pool [] bytes m info s e = absurd (cc)
 methods_spelled pool (x ∷ xs) bytes zero info s e = (s.0, subst (λ i. SpellsMethod pool i s.0) (same_Some x info e) s.3)
 methods_spelled pool (x ∷ xs) bytes (suc m) info s e = methods_spelled pool xs s.1 m info s.4 e
 
-short_info : (pool : List PoolEntry) (found : Option CodeInfo) (text : List ℕ) (code : Code) → SpellsBody pool found text → option_map code_of found ≡ Some code
-    → (length code.bytes < 2 ^ 16) × (code.max_stack < 2 ^ 16) × (code.max_locals < 2 ^ 16)
-short_info pool None text code s e = absurd (cc)
-short_info pool (Some info) text code s e =
-    let Short : Code → Type 0 = λ c. (length c.bytes < 2 ^ 16) × (c.max_stack < 2 ^ 16) × (c.max_locals < 2 ^ 16) in
-    subst Short (same_Some (code_of info) code e) (s.5.short, s.5.stack, s.5.locals)
+-- the one code of the attributes is that of the method
+code_among : (pool : List PoolEntry) (attributes : List Attribute) (found : List CodeInfo) (info : CodeInfo) → HasCodes pool attributes found → found ≡ info ∷ [] → (text : List ℕ) × SpellsCode pool info text
+code_among pool [] found info no_code e = absurd (cc)
+code_among pool (x ∷ xs) found info (not_code attribute more these other has) e = code_among pool xs found info has e
+code_among pool (x ∷ xs) found info (code_attribute attribute more c these named spelled has) e =
+    let same : c ≡ info = cc in
+    (attribute.content, subst (λ i. SpellsCode pool i attribute.content) same spelled)
 
-short_method : (pool : List PoolEntry) (methods : List MethodInfo) (bytes : List ℕ) (m : ℕ) (found : Option MethodInfo) (code : Code) → SpellsEach (SpellsMethod pool) methods bytes
-    → slice_get methods m ≡ found → option_and_then (λ (x : Method). x.code) (option_map (method_of pool) found) ≡ Some code
-    → (length code.bytes < 2 ^ 16) × (code.max_stack < 2 ^ 16) × (code.max_locals < 2 ^ 16)
-short_method pool methods bytes m None code s e h = absurd (cc)
-short_method pool methods bytes m (Some info) code s e h =
+small_info : (pool : List PoolEntry) (attributes : List Attribute) (found : Option CodeInfo) (code : Code) → HasCodes pool attributes (codes_in found) → option_map code_of found ≡ Some code → (code.max_stack < 2 ^ 16) × (code.max_locals < 2 ^ 16)
+small_info pool attributes None code has e = absurd (cc)
+small_info pool attributes (Some info) code has e =
+    let Small : Code → Type 0 = λ c. (c.max_stack < 2 ^ 16) × (c.max_locals < 2 ^ 16) in
+    let spelled = code_among pool attributes (info ∷ []) info has refl in
+    subst Small (same_Some (code_of info) code e) (spelled.1.stack, spelled.1.locals)
+
+small_method : (pool : List PoolEntry) (methods : List MethodInfo) (bytes : List ℕ) (m : ℕ) (found : Option MethodInfo) (code : Code) → SpellsEach (SpellsMethod pool) methods bytes
+    → slice_get methods m ≡ found → option_and_then (λ (x : Method). x.code) (option_map (method_of pool) found) ≡ Some code → (code.max_stack < 2 ^ 16) × (code.max_locals < 2 ^ 16)
+small_method pool methods bytes m None code s e h = absurd (cc)
+small_method pool methods bytes m (Some info) code s e h =
     let text = methods_spelled pool methods bytes m info s e in
-    short_info pool info.code text.1.body code text.1.body_spelled h
+    small_info pool text.1.attributes info.code code text.1.body h
 
-pub short_code : (class : List ℕ) (program : Program) (m : ℕ) → MakesProgram class program → HasShortCode program m
+small_code : (class : List ℕ) (program : Program) (m : ℕ) (code : Code) → MakesProgram class program → code_at program m ≡ Some code → (code.max_stack < 2 ^ 16) × (code.max_locals < 2 ^ 16)
 unfolding program_of
-short_code class program m made code at =
+small_code class program m code made at =
     let file = made.file in
     let found : code_at (program_of file) m ≡ Some code = subst (λ p. code_at p m ≡ Some code) made.program_is at in
     let mapped = slice_get-map (method_of file.pool) file.methods m in
     let h = subst (λ o. option_and_then (λ (x : Method). x.code) o ≡ Some code) mapped found in
-    short_method file.pool file.methods made.is_class.method_bytes m (slice_get file.methods m) code made.is_class.methods refl h
+    small_method file.pool file.methods made.is_class.methods.0 m (slice_get file.methods m) code made.is_class.methods.3 refl h
+
+-- where an operation stands, the code is short
+short_operation : (code : Code) (pc : ℕ) (found : Operation × ℕ) → operation_in (Some code) pc ≡ Some found → length code.bytes < 2 ^ 16
+short_operation code pc found e = by (nat_lt (length code.bytes) (2 ^ 16)) refl e
+  where
+    by : (b : Bool) → nat_lt (length code.bytes) (2 ^ 16) ≡ b → cond {A = Option (Operation × ℕ)} b (as_operation (decoded code.bytes pc)) None ≡ Some found → length code.bytes < 2 ^ 16
+    by true is e = ltb-true (length code.bytes) (2 ^ 16) is
+    by false is e = absurd (none-some _ e)
+
+plain_operation : (program : Program) (labels : Labels) (m : ℕ) (code : Code) (pc : ℕ) → IsPlainFrom program labels m code pc → (found : Operation × ℕ) × (operation_at program m pc ≡ Some found)
+plain_operation program labels m code pc (last at next found end) = ((Return, next), found)
+plain_operation program labels m code pc (then at next operation found goes more) = ((operation, next), found)
+
+pub short_code : (class : List ℕ) (program : Program) (labels : Labels) → MakesProgram class program → IsFormOf program labels → HasShortCode program labels.entry
+short_code class program labels made form code at =
+    let same : form.plain.0 ≡ code = same_Some form.plain.0 code (sym form.plain.1 ∙ at) in
+    let stands = plain_operation program labels labels.entry form.plain.0 0 form.plain.2 in
+    let here : operation_in (Some code) 0 ≡ Some stands.0 = ap (λ (c : Option Code). operation_in c 0) (sym at) ∙ stands.1 in
+    let small = small_code class program labels.entry code made at in
+    (short_operation code 0 stands.0 here, small.0, small.1)
 
 pub few_of_program : (class : List ℕ) (program : Program) → MakesProgram class program → length program.methods < 2 ^ 32
 unfolding program_of
 few_of_program class program made =
     let same : length program.methods ≡ length (program_of made.file).methods = ap (λ (p : Program). length p.methods) made.program_is in
     let mapped = length-map made.file.methods (method_of made.file.pool) in
-    omega (arith, same, mapped, made.is_class.methods_length)
+    omega (arith, same, mapped, made.is_class.methods.2)
 
 -- the verdict on the program is the decision on the bytes
 pub decided : (class policy : List ℕ) (program : Program) (labels : Labels) (decision : Decision) → IsFirstForm class policy program labels → IsVerdict program labels decision → Decides class policy decision

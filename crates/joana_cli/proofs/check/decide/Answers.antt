@@ -35,8 +35,9 @@ returns-then-not-branch c =
 
 pub verdict-requires-clause-short : goal.verdict-requires-clause-short
 verdict-requires-clause-short c =
-    short_code c.args.class.now c.in-Some.program c.in-Some-2.labels.entry
+    short_code c.args.class.now c.in-Some.program c.in-Some-2.labels
     (subst (λ (o : Option Program). IfSome o (MakesProgram c.args.class.now)) c.in-Some.is c.in_ok-program.ensures.program)
+    (c.in_ok-is_first_form.ensures.0 c.if-not-branch.false)
 
 pub returns-in-Ok : goal.returns-in-Ok
 returns-in-Ok c =

@@ -1,0 +1,191 @@
+//! Class A: `class A { static native int get(); static native void show(int i); static void main() { if (get() > 0) show(1); } }`
+//! as javac writes it, and what is at fault in it with some bytes changed. Places are counted by hand from the format.
+use crate::read_class;
+use class_pool::{ClassCode, ClassFault, ClassFile};
+use std::alloc::Global;
+use std::test::Fail;
+
+/// Pool entry 4 stands at place 25, the pool ends before 180, the methods begin at 192, 235, 243 and 251, the code of the
+/// first at 214 and that of `main` at 273.
+const CLASS_A: [u8; 319] = [
+    0xca, 0xfe, 0xba, 0xbe, 0x00, 0x00, 0x00, 0x34, 0x00, 0x17, 0x0a, 0x00, 0x05, 0x00, 0x11, 0x0a,
+    0x00, 0x04, 0x00, 0x12, 0x0a, 0x00, 0x04, 0x00, 0x13, 0x07, 0x00, 0x14, 0x07, 0x00, 0x15, 0x01,
+    0x00, 0x06, 0x3c, 0x69, 0x6e, 0x69, 0x74, 0x3e, 0x01, 0x00, 0x03, 0x28, 0x29, 0x56, 0x01, 0x00,
+    0x04, 0x43, 0x6f, 0x64, 0x65, 0x01, 0x00, 0x0f, 0x4c, 0x69, 0x6e, 0x65, 0x4e, 0x75, 0x6d, 0x62,
+    0x65, 0x72, 0x54, 0x61, 0x62, 0x6c, 0x65, 0x01, 0x00, 0x03, 0x67, 0x65, 0x74, 0x01, 0x00, 0x03,
+    0x28, 0x29, 0x49, 0x01, 0x00, 0x04, 0x73, 0x68, 0x6f, 0x77, 0x01, 0x00, 0x04, 0x28, 0x49, 0x29,
+    0x56, 0x01, 0x00, 0x04, 0x6d, 0x61, 0x69, 0x6e, 0x01, 0x00, 0x0d, 0x53, 0x74, 0x61, 0x63, 0x6b,
+    0x4d, 0x61, 0x70, 0x54, 0x61, 0x62, 0x6c, 0x65, 0x01, 0x00, 0x0a, 0x53, 0x6f, 0x75, 0x72, 0x63,
+    0x65, 0x46, 0x69, 0x6c, 0x65, 0x0c, 0x00, 0x06, 0x00, 0x07, 0x0c, 0x00, 0x0a, 0x00, 0x0b, 0x0c,
+    0x00, 0x0c, 0x00, 0x0d, 0x01, 0x00, 0x01, 0x41, 0x01, 0x00, 0x10, 0x6a, 0x61, 0x76, 0x61, 0x2f,
+    0x6c, 0x61, 0x6e, 0x67, 0x2f, 0x4f, 0x62, 0x6a, 0x65, 0x63, 0x74, 0x01, 0x00, 0x06, 0x41, 0x2e,
+    0x6a, 0x61, 0x76, 0x61, 0x00, 0x20, 0x00, 0x04, 0x00, 0x05, 0x00, 0x00, 0x00, 0x00, 0x00, 0x04,
+    0x00, 0x00, 0x00, 0x06, 0x00, 0x07, 0x00, 0x01, 0x00, 0x08, 0x00, 0x00, 0x00, 0x1d, 0x00, 0x01,
+    0x00, 0x01, 0x00, 0x00, 0x00, 0x05, 0x2a, 0xb7, 0x00, 0x01, 0xb1, 0x00, 0x00, 0x00, 0x01, 0x00,
+    0x09, 0x00, 0x00, 0x00, 0x06, 0x00, 0x01, 0x00, 0x00, 0x00, 0x01, 0x01, 0x08, 0x00, 0x0a, 0x00,
+    0x0b, 0x00, 0x00, 0x01, 0x08, 0x00, 0x0c, 0x00, 0x0d, 0x00, 0x00, 0x00, 0x08, 0x00, 0x0e, 0x00,
+    0x07, 0x00, 0x01, 0x00, 0x08, 0x00, 0x00, 0x00, 0x2c, 0x00, 0x01, 0x00, 0x00, 0x00, 0x00, 0x00,
+    0x0b, 0xb8, 0x00, 0x02, 0x9e, 0x00, 0x07, 0x04, 0xb8, 0x00, 0x03, 0xb1, 0x00, 0x00, 0x00, 0x02,
+    0x00, 0x09, 0x00, 0x00, 0x00, 0x06, 0x00, 0x01, 0x00, 0x00, 0x00, 0x01, 0x00, 0x0f, 0x00, 0x00,
+    0x00, 0x03, 0x00, 0x01, 0x0a, 0x00, 0x01, 0x00, 0x10, 0x00, 0x00, 0x00, 0x02, 0x00, 0x16,
+];
+
+/// The number of a code, from 1 on.
+fn number(code: ClassCode) -> u32 {
+    match code {
+        ClassCode::Truncated => 1,
+        ClassCode::Magic => 2,
+        ClassCode::Version => 3,
+        ClassCode::PoolTag => 4,
+        ClassCode::PoolIndex => 5,
+        ClassCode::BadText => 6,
+        ClassCode::BadDescriptor => 7,
+        ClassCode::CodeBounds => 8,
+        ClassCode::BadOpcode => 9,
+        ClassCode::Trailing => 10,
+        ClassCode::Unsupported(_) => 11,
+        ClassCode::Memory => 12,
+    }
+}
+
+/// The code and the place of a fault, zeros for a class.
+fn told(read: Result<ClassFile, ClassFault>) -> [u32; 2] {
+    match read {
+        Ok(_) => [0, 0],
+        Err(fault) => [number(fault.code), fault.place],
+    }
+}
+
+/// What reading says of class A with these bytes at these places.
+fn with(alloc: Global, changes: &[[u32; 2]]) -> [u32; 2] {
+    let mut bytes = CLASS_A;
+    for change in changes {
+        let place = change[0] as usize;
+        if place < bytes.len() {
+            bytes[place] = change[1].to_be_bytes()[3];
+        }
+    }
+    told(read_class(alloc, &bytes))
+}
+
+#[test]
+fn class_a_is_read(rt: HostRuntime) -> Result<(), Fail> {
+    let class = read_class(rt.alloc(), &CLASS_A).map_err(|_| "a class")?;
+    assert_eq!(rt; class.pool.as_slice().len(), 22);
+    assert_eq!(rt; class.methods.as_slice().len(), 4);
+    let mut lengths = [0, 0, 0, 0];
+    for (length, method) in lengths.iter_mut().zip(class.methods.as_slice()) {
+        if let Some(code) = &method.code {
+            *length = code.bytes.as_slice().len();
+        }
+    }
+    assert_eq!(rt; lengths, [5, 0, 0, 11]);
+    Ok(())
+}
+
+#[test]
+fn one_byte_is_at_fault(rt: HostRuntime) {
+    // a place and its new byte; the code and the place of the fault
+    let rows = [
+        [0, 203, 2, 0],
+        [3, 191, 2, 0],
+        [7, 44, 3, 6],
+        [6, 1, 3, 6],
+        [9, 0, 5, 8],
+        [10, 2, 4, 10],
+        [25, 17, 4, 25],
+        [34, 0, 6, 31],
+        [43, 240, 6, 40],
+        [45, 87, 7, 10],
+        [151, 46, 7, 25],
+        [27, 0, 5, 25],
+        [27, 23, 5, 25],
+        [27, 17, 5, 25],
+        [183, 6, 5, 182],
+        [185, 0, 5, 184],
+        [195, 4, 5, 194],
+        [195, 7, 7, 194],
+        [197, 6, 7, 196],
+        [201, 4, 5, 200],
+        [205, 30, 8, 202],
+        [213, 0, 8, 210],
+        [235, 0, 8, 235],
+        [251, 1, 8, 251],
+        [278, 5, 8, 276],
+        [278, 11, 8, 276],
+        [283, 16, 8, 283],
+        [279, 202, 9, 279],
+        [283, 255, 9, 283],
+        [279, 98, 11, 279],
+        [280, 186, 11, 280],
+        [193, 32, 11, 192],
+        [82, 74, 11, 235],
+        [275, 4, 5, 273],
+    ];
+    for row in rows {
+        let place = row[0];
+        assert_eq!(rt; with(rt.alloc(), &[[place, row[1]]]), [row[2], row[3]], "{place}");
+    }
+}
+
+#[test]
+fn the_earlier_of_two_faults_is_told(rt: HostRuntime) {
+    // two places, each with its new byte; the code and the place of the fault
+    let rows = [
+        // the version before a tag
+        [7, 44, 10, 2, 3, 6],
+        // a tag before a reference of an earlier entry
+        [25, 17, 14, 0, 4, 25],
+        // both indices of a method before its name's bytes
+        [195, 7, 197, 4, 5, 196],
+        // what stands in a method's attributes before its own fault
+        [193, 0x20, 213, 0, 8, 210],
+        // the length of Code before its instructions
+        [205, 0x1e, 214, 0xca, 8, 202],
+        // all instructions before a jump
+        [278, 5, 283, 0xff, 9, 283],
+        // a jump before a method's own fault
+        [251, 1, 278, 5, 8, 276],
+    ];
+    for row in rows {
+        let place = row[0];
+        let told = with(rt.alloc(), &[[place, row[1]], [row[2], row[3]]]);
+        assert_eq!(rt; told, [row[4], row[5]], "{place}");
+    }
+}
+
+#[test]
+fn bytes_are_missing_or_left(rt: HostRuntime) {
+    let mut longer = [0; 320];
+    longer[..319].copy_from_slice(&CLASS_A);
+    assert_eq!(rt; told(read_class(rt.alloc(), &longer)), [10, 319]);
+    for length in [0usize, 3, 9, 30, 181, 272, 318] {
+        let answer = told(read_class(rt.alloc(), &CLASS_A[..length]));
+        assert_eq!(rt; answer, [1, length as u32], "{length}");
+    }
+}
+
+/// Class A with this entry behind its pool, of which it has then `count`.
+fn with_entry(alloc: Global, count: u8, entry: &[u8], changes: [u8; 2]) -> Result<[u32; 2], Fail> {
+    let mut bytes = Vec::new(alloc);
+    bytes.extend_from_slice(&CLASS_A[..9])?;
+    bytes.push(count)?;
+    bytes.extend_from_slice(&CLASS_A[10..26])?;
+    bytes.extend_from_slice(&changes)?;
+    bytes.extend_from_slice(&CLASS_A[28..180])?;
+    bytes.extend_from_slice(entry)?;
+    bytes.extend_from_slice(&CLASS_A[180..])?;
+    Ok(told(read_class(alloc, bytes.as_slice())))
+}
+
+#[test]
+fn constants_of_two_indices(rt: HostRuntime) -> Result<(), Fail> {
+    let alloc = rt.alloc();
+    let long = [5, 0, 0, 0, 0, 0, 0, 0, 1];
+    // entry 4 names its text, and then the second index of the Long
+    assert_eq!(rt; with_entry(alloc, 25, &long, [0, 20])?, [0, 0]);
+    assert_eq!(rt; with_entry(alloc, 25, &long, [0, 24])?, [5, 25]);
+    assert_eq!(rt; with_entry(alloc, 24, &long, [0, 20])?, [5, 180], "no room");
+    assert_eq!(rt; with_entry(alloc, 24, &[4, 0x3f, 0x80, 0, 0], [0, 20])?, [0, 0], "a Float");
+    Ok(())
+}
