@@ -1,5 +1,8 @@
 -- The grammar of class files (JVM Specification SE 8, 4.1 to 4.7), cut to the profile: which bytes are those of a class.
 -- It splits whole lists of bytes and says of each part what it spells. Attributes that mean nothing to a run aren't kept.
+-- This project's own: any minor version and any flags are taken; MethodHandle, MethodType and InvokeDynamic entries and
+-- unread attributes are unchecked, and so is whether two members have one name; there is always a superclass; no code uses
+-- long, float or double, no method is synchronized, and no invokespecial or invokestatic names an interface's method.
 use Rattle.std.specs.Prelude.{◌≡◌, ◌⊎◌, ℕ, zero, suc, ◌+◌, ◌-◌, ◌*◌, ◌^◌, ◌<◌, ◌≤◌, ℤ, List, [], ◌∷◌, ◌++◌, length, Bool, true, false, Option, Some, None, Ok, IsSomeAnd, codes, slice_get, Contains, pos, ◌+ℤ◌}
 use Rattle.std.specs.Int.{w32, cast_unsigned}
 use Rattle.std.specs.Int.RustNames.{FitsSigned}

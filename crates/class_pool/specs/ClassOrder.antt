@@ -1,5 +1,5 @@
 -- A class file from its first byte to its last (JVM Specification SE 8, 4.1 to 4.7), in the order in which its items are
--- read and checked: the class, or the first fault with its place.
+-- read and checked: the class, or the first fault with its place. The order, the codes and the places are this project's own.
 use Rattle.std.specs.Prelude.{ℕ, zero, suc, ◌+◌, ◌-◌, ◌*◌, Bool, true, false, ◌&&◌, ◌||◌, not, nat_lt, nat_le, ◌==◌, if◌then◌else◌, List, [], ◌∷◌, length, bit_and, drop, Option, Some, None, Result, Ok, Err, codes}
 use Rattle.std.specs.Str.{bytes_eq}
 use Rattle.jo_text.specs.Tests.{is_member_name, is_field_desc, is_method_desc}
@@ -209,8 +209,8 @@ method_attributes size pool (suc n) rest = do
     joined [] others = others
     joined (code ∷ more) others = code ∷ others
 
--- A method's own faults: a type of two words in the descriptor of one that may run, synchronized, and that not exactly one
--- of a Code and a flag which says that there is none is there.
+-- A method's own faults: a long, float or double in the descriptor of one that has code or is native, synchronized, and that
+-- not exactly one of a Code and a flag which says that there is none is there.
 abbrev pub method_questions : Bool → ℕ → List CodeInfo → List (Bool × ClassCode)
 method_questions wide flags codes =
     (not (wide && (has_flag native_flag flags || nat_lt 0 (length codes))), Unsupported WideType)

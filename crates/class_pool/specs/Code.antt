@@ -38,7 +38,7 @@ abbrev pub dims_of : List ℕ → ℕ
 dims_of [] = 0
 dims_of (b ∷ bs) = if b == 91 then 1 + dims_of bs else 0
 
--- a class, no array; any class or array but one of 255 dimensions
+-- the dimensions of what the Class entry with that index names, where there is one
 abbrev pub dims_at : List PoolEntry → ℕ → Option ℕ
 dims_at pool index = dims_in (class_name_at pool index)
   where
@@ -187,7 +187,7 @@ row_fault pool size insns k (row ∷ more) = at_row (first_failing (row_question
 
 -- ---- the code that is kept
 
--- how many words the arguments of a call with this descriptor take, its receiver included
+-- how many words the arguments of a call with this descriptor take, its receiver included, where none is a long or double
 abbrev pub argument_words : List ℕ → ℕ
 argument_words desc = 1 + parameters_in 0 false desc
   where
@@ -217,6 +217,6 @@ canonical_table pool code placed = table_for placed.insn
     table_for (LookupSwitch other pairs at) = take (placed.next - at) (drop at code)
     table_for _ = []
 
--- the code with zero padding
+-- the code with zero padding and canonical counts
 abbrev pub canonical_code : List PoolEntry → List ℕ → List Placed → List ℕ
 canonical_code pool code insns = flat_map (λ (placed : Placed). spelled placed.pc placed.insn (canonical_table pool code placed)) insns

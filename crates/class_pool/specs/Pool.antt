@@ -158,6 +158,7 @@ abbrev pub first_failing : List (Bool × ClassCode) → Option ClassCode
 first_failing [] = None
 first_failing ((test, code) ∷ more) = if test then first_failing more else Some code
 
+-- A NameAndType without a Utf8 as its descriptor is a wrong descriptor of the entry that refers to it (this project's own).
 abbrev pub member_questions : List PoolEntry → (List ℕ → Bool) → ℕ → ℕ → List (Bool × ClassCode)
 member_questions pool is_desc class type =
     (is_class (entry_at pool class) && is_name_and_type (entry_at pool type), PoolIndex) ∷ (is_text_that is_desc (desc_at pool type), BadDescriptor) ∷ []

@@ -47,6 +47,7 @@ pub struct MethodInfo {
 pub struct CodeInfo {
     pub max_stack: u16,
     pub max_locals: u16,
+    /// The code, whose switches have zero padding, and whose invokeinterfaces have their count and a zero.
     pub bytes: Name,
     pub rows: List<RowInfo>,
 }

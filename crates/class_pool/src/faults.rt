@@ -23,13 +23,15 @@ pub enum ClassCode {
     Version,
     /// A pool entry of an unknown kind.
     PoolTag,
-    /// A pool index that is none, or names an entry of the wrong kind.
+    /// A pool index that is none, or names an entry of the wrong kind; an array where a class is asked for; a pool without
+    /// entry 0, or without room for the second index of a Long or Double.
     PoolIndex,
     /// Text that isn't modified UTF-8.
     BadText,
     /// A name or descriptor outside its grammar.
     BadDescriptor,
-    /// A length, a count, a place in code or an instruction that can't be.
+    /// A length, a place in code or an instruction that can't be; a second ConstantValue; a method with no, two or a forbidden
+    /// Code.
     CodeBounds,
     BadOpcode,
     /// Bytes follow the class.
@@ -39,7 +41,8 @@ pub enum ClassCode {
 }
 
 /// The first fault of a class file in the order of reading, and the place of the item at fault: the offset of its first
-/// byte, or the file's length for an item whose bytes aren't all there. With `Memory` the place is 0 and says nothing.
+/// byte, or the file's length for an item whose bytes aren't all there. Where memory ran out the code is `Memory` and the
+/// place 0.
 #[derive(Clone, Copy)]
 pub struct ClassFault {
     pub code: ClassCode,
