@@ -15,7 +15,12 @@ use jo_text::{is_field_desc, is_member_name, is_method_desc};
 pub fn dims_of(name: &[u8]) -> usize
     ensures { result ≡ count_dims name.now }
 {
-    name.iter().take_while(|byte| **byte == b'[').count()
+    for (dims, byte) in name.iter().enumerate() {
+        if *byte != b'[' {
+            return dims;
+        }
+    }
+    name.len()
 }
 
 /// How many array dimensions the Class entry with that index has.
@@ -106,6 +111,7 @@ pub fn attribute_head<'a>(
 }
 
 /// What follows an attribute.
+#[tactic(auto, unfolding(class_pool::specs::ClassOrder::skip_attribute))]
 fn skip_attribute<'a>(size: u32, pool: &[PoolEntry], rest: &'a [u8]) -> Result<&'a [u8], Stop>
     ensures { Gives (λ x. (tt, x.now)) result (past_attribute size pool.now rest.now) }
 {
@@ -118,11 +124,11 @@ fn skip_attribute<'a>(size: u32, pool: &[PoolEntry], rest: &'a [u8]) -> Result<&
 pub fn skip_attributes<'a>(size: u32, pool: &[PoolEntry], rest: &'a [u8]) -> Result<&'a [u8], Stop>
     ensures { Gives (λ x. x.now) result (past_attributes size pool.now rest.now) }
 {
-    let (count, mut rest) = number_of_two(size, rest)?;
+    let (count, mut behind) = number_of_two(size, rest)?;
     for _ in 0..count {
-        rest = skip_attribute(size, pool, rest)?;
+        behind = skip_attribute(size, pool, behind)?;
     }
-    Ok(rest)
+    Ok(behind)
 }
 
 /// Whether the text with that index is this name.
