@@ -1,1 +1,2 @@
+mod FieldSteps
 mod Skipping
