@@ -4,18 +4,36 @@ ghost use Rattle.std.specs.Str.{bytes_eq};
 ghost use Rattle.jo_text.specs.Tests.{is_member_name as passes_member};
 ghost use Rattle.class_pool.specs.Pool.{is_text, is_text_that, utf8_at as utf8_with};
 ghost use Rattle.class_pool.specs.Code.{dims_of as count_dims, has_dims_that, dims_at as dims_with};
-ghost use Rattle.class_pool.specs.ClassOrder.{class_index as index_of_class, text_index as index_of_text, fits_kind as passes_kind, read_head, attribute_head as head_of_attribute, skip_attribute as past_attribute, skip_attributes as past_attributes, is_named as has_name};
+ghost use Rattle.class_pool.specs.ClassOrder.{has_flag as flag_is_set, class_index as index_of_class, text_index as index_of_text, fits_kind as passes_kind, read_head, attribute_head as head_of_attribute, skip_attribute as past_attribute, skip_attributes as past_attributes, is_named as has_name};
 ghost use Rattle.class_pool.specs.Outcomes.{Gives};
 
 use class_pool::items::{bytes_of, fault_at, number_of_four, number_of_two, place_of};
 use class_pool::{ClassCode, MemberKind, PoolEntry, Stop, class_name_at, utf8_at};
 use jo_text::{is_field_desc, is_member_name, is_method_desc};
 
+/// The flags that matter here (4.5, 4.6).
+pub const STATIC: u16 = 0x0008;
+pub const SYNCHRONIZED: u16 = 0x0020;
+pub const NATIVE: u16 = 0x0100;
+pub const ABSTRACT: u16 = 0x0400;
+
+/// Whether the flag is set.
+pub fn has_flag(flag: u16, flags: u16) -> bool
+    ensures { result ≡ flag_is_set flag flags }
+{
+    flags & flag != 0
+}
+
 /// How many array dimensions a name of a Class entry has.
 pub fn dims_of(name: &[u8]) -> usize
     ensures { result ≡ count_dims name.now }
 {
-    name.iter().take_while(|byte| **byte == b'[').count()
+    for (dims, byte) in name.iter().enumerate() {
+        if *byte != b'[' {
+            return dims;
+        }
+    }
+    name.len()
 }
 
 /// How many array dimensions the Class entry with that index has.
@@ -106,6 +124,7 @@ pub fn attribute_head<'a>(
 }
 
 /// What follows an attribute.
+#[tactic(auto, unfolding(class_pool::specs::ClassOrder::skip_attribute))]
 fn skip_attribute<'a>(size: u32, pool: &[PoolEntry], rest: &'a [u8]) -> Result<&'a [u8], Stop>
     ensures { Gives (λ x. (tt, x.now)) result (past_attribute size pool.now rest.now) }
 {
@@ -118,11 +137,11 @@ fn skip_attribute<'a>(size: u32, pool: &[PoolEntry], rest: &'a [u8]) -> Result<&
 pub fn skip_attributes<'a>(size: u32, pool: &[PoolEntry], rest: &'a [u8]) -> Result<&'a [u8], Stop>
     ensures { Gives (λ x. x.now) result (past_attributes size pool.now rest.now) }
 {
-    let (count, mut rest) = number_of_two(size, rest)?;
+    let (count, mut behind) = number_of_two(size, rest)?;
     for _ in 0..count {
-        rest = skip_attribute(size, pool, rest)?;
+        behind = skip_attribute(size, pool, behind)?;
     }
-    Ok(rest)
+    Ok(behind)
 }
 
 /// Whether the text with that index is this name.
