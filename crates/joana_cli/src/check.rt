@@ -1,6 +1,6 @@
 //! The command `check`: from the bytes of a class file and a policy to the verdict.
 ghost use Rattle.std.specs.Prelude.{◌≡◌, ◌<◌, ◌^◌, ◌↔◌, IfOk, IfNone, IfSome, IsTrue, unwrap_or, [], map, length};
-ghost use Rattle.std.specs.List.{list_any};
+ghost use Rattle.std.specs.List.{list_all, list_any};
 ghost use Rattle.std.specs.Str.{bytes_eq};
 ghost use Rattle.class_pool.specs.Pool.{class_name_at};
 ghost use Rattle.class_pool.specs.ClassGrammar.{IsClass};
@@ -11,7 +11,7 @@ ghost use Rattle.flow_graph.specs.Building.{HasShortCode};
 ghost use Rattle.joana_cli.specs.Decision.{Decides, MakesProgram, HasOneCode, IsFormOf, IsVerdict};
 ghost use Rattle.joana_cli.specs.FirstForm.{has_no_rows, is_bare, is_of_prelude, is_under_object};
 
-use class_pool::{ClassCode, ClassFile, CodeInfo, class_name_at};
+use class_pool::{ClassCode, ClassFile, CodeInfo, MethodInfo, class_name_at};
 use class_read::read_class;
 use flow_graph::sdg;
 use jo_ids::MethodId;
@@ -109,17 +109,19 @@ fn has_no_rows(body: &Option<CodeInfo>) -> bool
     }
 }
 
+/// Whether no method has such a row.
+fn have_no_rows(methods: &[MethodInfo]) -> bool
+    ensures { result ≡ list_all (λ m. has_no_rows m.code) methods.now }
+{
+    methods.iter().all(|method| has_no_rows(&method.code))
+}
+
 /// Whether the class has no interfaces, no fields and no exception rows.
 fn is_bare(file: &ClassFile) -> bool
     ensures { result ≡ is_bare file.now }
 {
-    file.interfaces.as_slice().is_empty()
-        && file.fields.as_slice().is_empty()
-        && file
-            .methods
-            .as_slice()
-            .iter()
-            .all(|method| has_no_rows(&method.code))
+    let no_parts = file.interfaces.as_slice().is_empty() && file.fields.as_slice().is_empty();
+    no_parts && have_no_rows(file.methods.as_slice())
 }
 
 /// The class that the bytes are, where they are one and have fewer than 2^31 bytes.
