@@ -3,13 +3,13 @@
 -- This project's own: any minor version and any flags are taken; MethodHandle, MethodType and InvokeDynamic entries and
 -- unread attributes are unchecked, and so is whether two members have one name; there is always a superclass; no code uses
 -- long, float or double, no method is synchronized, and no invokespecial or invokestatic names an interface's method.
-use Rattle.std.specs.Prelude.{◌≡◌, ◌⊎◌, ℕ, zero, suc, ◌+◌, ◌-◌, ◌*◌, ◌^◌, ◌<◌, ◌≤◌, ℤ, List, [], ◌∷◌, ◌++◌, length, Bool, true, false, Option, Some, None, Ok, IsSomeAnd, codes, slice_get, Contains, pos, ◌+ℤ◌}
+use Rattle.std.specs.Prelude.{◌≡◌, ◌⊎◌, ℕ, ◌+◌, ◌^◌, ◌<◌, ◌≤◌, ℤ, List, [], ◌∷◌, ◌++◌, length, Bool, true, false, Option, Some, None, Ok, IsSomeAnd, codes, Contains, pos, ◌+ℤ◌}
 use Rattle.std.specs.Int.{w32, cast_unsigned}
 use Rattle.std.specs.Int.RustNames.{FitsSigned}
 use Rattle.std.specs.List.{AllByRecursion}
 use Rattle.byteorder.specs.Endian.{big_bytes}
 use Rattle.jo_text.specs.Mutf8.{IsMutf8}
-use Rattle.jo_text.specs.Descriptors.{IsMemberName, IsFieldDesc, IsMethodDesc, IsClassOrArray, IsClassName}
+use Rattle.jo_text.specs.Descriptors.{IsMemberName, IsFieldDesc, IsMethodDesc, IsClassOrArray}
 use Rattle.jo_insn.specs.declared.instructions.Insn.{Insn}
 use Rattle.jo_insn.specs.Instructions.{decoded}
 use Rattle.class_pool.specs.declared.entries.PoolEntry.{PoolEntry}

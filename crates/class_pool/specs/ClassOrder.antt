@@ -1,10 +1,10 @@
 -- A class file from its first byte to its last (JVM Specification SE 8, 4.1 to 4.7), in the order in which its items are
 -- read and checked: the class, or the first fault with its place. The order, the codes and the places are this project's own.
-use Rattle.std.specs.Prelude.{ℕ, zero, suc, ◌+◌, ◌-◌, ◌*◌, Bool, true, false, ◌&&◌, ◌||◌, not, nat_lt, nat_le, ◌==◌, if◌then◌else◌, List, [], ◌∷◌, length, bit_and, drop, Option, Some, None, Result, Ok, Err, codes}
+use Rattle.std.specs.Prelude.{ℕ, zero, suc, ◌+◌, ◌-◌, ◌*◌, Bool, true, false, ◌&&◌, ◌||◌, not, nat_lt, nat_le, ◌==◌, if◌then◌else◌, List, [], ◌∷◌, length, bit_and, Option, Some, None, Result, Ok, Err, codes}
 use Rattle.std.specs.Str.{bytes_eq}
 use Rattle.jo_text.specs.Tests.{is_member_name, is_field_desc, is_method_desc}
 use Rattle.class_pool.specs.declared.entries.PoolEntry.{PoolEntry}
-use Rattle.class_pool.specs.declared.entries.PoolEntry.TheVariants.{Second, Utf8, Integer, Float, Long, Double, Class, Text, FieldRef, MethodRef, InterfaceMethodRef, NameAndType, MethodHandle, MethodType, InvokeDynamic}
+use Rattle.class_pool.specs.declared.entries.PoolEntry.TheVariants.{Integer, Float, Long, Double, Text}
 use Rattle.class_pool.specs.declared.classes.MemberKind.{MemberKind}
 use Rattle.class_pool.specs.declared.classes.MemberKind.TheVariants.{Field, Method}
 use Rattle.class_pool.specs.declared.classes.ClassFile.{ClassFile}
@@ -17,7 +17,7 @@ use Rattle.class_pool.specs.declared.faults.ClassCode.{ClassCode}
 use Rattle.class_pool.specs.declared.faults.ClassCode.TheVariants.{Magic, Version, PoolIndex, BadDescriptor, CodeBounds, Trailing, Unsupported}
 use Rattle.class_pool.specs.declared.faults.ClassFault.{ClassFault}
 use Rattle.class_pool.specs.Items.{◌>>=◌, place_of, fault, passing, number, bytes_of, two_numbers, many}
-use Rattle.class_pool.specs.Pool.{entry_at, utf8_at, class_name_at, is_text_that, is_text, first_failing, unless_fault, read_pool_from}
+use Rattle.class_pool.specs.Pool.{entry_at, utf8_at, is_text_that, is_text, first_failing, read_pool_from}
 use Rattle.class_pool.specs.Code.{Placed, is_wide_desc, has_dims_that, dims_at, insns_of, first_bad_jump, row_fault, canonical_code}
 
 -- ---- flags (4.1, 4.5, 4.6)

@@ -1,19 +1,17 @@
 -- Code (JVM Specification SE 8, 4.7.3, 4.9.1): first its instructions one after another, then their jumps, then the rows of
 -- its exception table. A fault here is a code and a pc, or a code and a row.
-use Rattle.std.specs.Prelude.{ℕ, zero, suc, ◌+◌, ◌-◌, ◌*◌, Bool, true, false, ◌&&◌, ◌||◌, not, nat_lt, nat_le, ◌==◌, if◌then◌else◌, ℤ, pos, ◌+ℤ◌, ◌%◌, List, [], ◌∷◌, ◌++◌, length, take, drop, map, Option, Some, None, Result, Ok, Err, slice_index}
+use Rattle.std.specs.Prelude.{ℕ, zero, suc, ◌+◌, ◌-◌, Bool, true, false, ◌&&◌, ◌||◌, not, nat_lt, nat_le, ◌==◌, if◌then◌else◌, ℤ, pos, ◌+ℤ◌, ◌%◌, List, [], ◌∷◌, length, take, drop, Option, Some, None, Result, Ok, Err}
 use Rattle.std.specs.List.{list_any, list_all, flat_map}
 use Rattle.std.specs.Ordering.{int_eq}
 use Rattle.byteorder.specs.Endian.{big_number, twos_complement}
-use Rattle.jo_text.specs.Tests.{is_field_desc, is_method_desc}
 use Rattle.jo_insn.specs.declared.instructions.Insn.{Insn}
-use Rattle.jo_insn.specs.declared.instructions.Insn.TheVariants.{Plain, Local, Iinc, Push, Pooled, Array, Jump, TableSwitch, LookupSwitch}
+use Rattle.jo_insn.specs.declared.instructions.Insn.TheVariants.{Pooled, Jump, TableSwitch, LookupSwitch}
 use Rattle.jo_insn.specs.declared.instructions.InsnFault.{InsnFault}
 use Rattle.jo_insn.specs.declared.instructions.InsnFault.TheVariants as insn_faults
 use Rattle.jo_insn.specs.Instructions.{decoded, spelled, offsets_between}
 use Rattle.class_pool.specs.declared.entries.PoolEntry.{PoolEntry}
-use Rattle.class_pool.specs.declared.entries.PoolEntry.TheVariants.{Second, Utf8, Integer, Float, Long, Double, Class, Text, FieldRef, MethodRef, InterfaceMethodRef, NameAndType, MethodHandle, MethodType, InvokeDynamic}
+use Rattle.class_pool.specs.declared.entries.PoolEntry.TheVariants.{Integer, Float, Class, Text, FieldRef, MethodRef, InterfaceMethodRef, MethodHandle, MethodType}
 use Rattle.class_pool.specs.declared.classes.RowInfo.{RowInfo}
-use Rattle.class_pool.specs.declared.faults.Cut.{Cut}
 use Rattle.class_pool.specs.declared.faults.Cut.TheVariants.{Opcode, Constant, WideType}
 use Rattle.class_pool.specs.declared.faults.ClassCode.{ClassCode}
 use Rattle.class_pool.specs.declared.faults.ClassCode.TheVariants.{PoolIndex, CodeBounds, BadOpcode, Unsupported}
