@@ -1,2 +1,3 @@
 mod FieldSteps
+mod MethodSteps
 mod Skipping
