@@ -18,15 +18,15 @@ by_test : (P : Type 0) (test : Bool) → (test ≡ true → P) → (test ≡ fal
 by_test P true passed failed = passed refl
 by_test P false passed failed = failed refl
 
-by_answer : {X : Type 0} (P : Type 0) (read : Result X ClassFault) → ((f : ClassFault) → read ≡ Err f → P) → ((x : X) → read ≡ Ok x → P) → P
+pub by_answer : {X : Type 0} (P : Type 0) (read : Result X ClassFault) → ((f : ClassFault) → read ≡ Err f → P) → ((x : X) → read ≡ Ok x → P) → P
 by_answer P (Err f) failed goes = failed f refl
 by_answer P (Ok x) failed goes = goes x refl
 
-after_one : ℕ → List PoolEntry → ℕ → Result (Option CodeInfo × List ℕ) ClassFault → Result (List CodeInfo × List ℕ) ClassFault
+abbrev after_one : ℕ → List PoolEntry → ℕ → Result (Option CodeInfo × List ℕ) ClassFault → Result (List CodeInfo × List ℕ) ClassFault
 after_one size pool n first = first >>= λ x. with_front (codes_in x.0) (method_attributes size pool n x.1)
 
-first_attribute : (size : ℕ) (pool : List PoolEntry) (n : ℕ) (rest : List ℕ) → method_attributes size pool (suc n) rest ≡ after_one size pool n (method_attribute size pool rest)
-unfolding method_attributes method_attribute after_one
+pub first_attribute : (size : ℕ) (pool : List PoolEntry) (n : ℕ) (rest : List ℕ) → method_attributes size pool (suc n) rest ≡ after_one size pool n (method_attribute size pool rest)
+unfolding method_attributes method_attribute
 first_attribute size pool n rest =
     by_answer _ (text_index size pool rest) (λ f failed. rw failed refl) (λ name named.
     by_answer _ (number size 4 name.1) (λ f failed. rw (named, failed) refl) (λ count counted.
@@ -46,11 +46,9 @@ module _ (size : ℕ) (pool : List PoolEntry) (front : List CodeInfo) (count i :
       sym (ap (with_front front) (ap (λ (n : ℕ). method_attributes size pool n rest) one_more ∙ first_attribute size pool (count - (i + 1)) rest)) ∙ so_far
 
   pub takes_attribute : (found : Option CodeInfo) (behind : List ℕ) → i < count → method_attribute size pool rest ≡ Ok (found, behind) → with_front (front ++ codes_in found) (method_attributes size pool (count - (i + 1)) behind) ≡ total
-  unfolding after_one
   takes_attribute found behind more e = sym (joins front (codes_in found) _) ∙ sym (ap (λ (r : Result (Option CodeInfo × List ℕ) ClassFault). with_front front (after_one size pool (count - (i + 1)) r)) e) ∙ one_attribute more
 
   pub stops_at_attribute : (stop : Stop) → i < count → Fails stop (method_attribute size pool rest) → Fails stop total
-  unfolding after_one
   stops_at_attribute Memory more e = tt
   stops_at_attribute (Fault fault) more e = sym (one_attribute more) ∙ ap (λ (r : Result (Option CodeInfo × List ℕ) ClassFault). with_front front (after_one size pool (count - (i + 1)) r)) e
 
