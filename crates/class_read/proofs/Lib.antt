@@ -1,2 +1,5 @@
+mod ClassLaws
 mod FieldSteps
+mod MethodSteps
+mod OwnFaults
 mod Skipping
