@@ -1,9 +1,9 @@
 -- What a fault of the reader says of a file.
-use Rattle.std.specs.Prelude.{◌≡◌, ◌⊎◌, ℕ, List, Err}
+use Rattle.std.specs.Prelude.{◌≡◌, ℕ, List, Ok, Err}
 use Rattle.class_pool.specs.declared.classes.ClassFile.{ClassFile}
+use Rattle.class_pool.specs.declared.faults.ClassCode.{ClassCode}
 use Rattle.class_pool.specs.declared.faults.ClassCode.TheVariants.{Memory}
 use Rattle.class_pool.specs.declared.faults.ClassFault.{ClassFault}
-use Rattle.class_pool.specs.Items.{fault}
 use Rattle.class_pool.specs.ClassOrder.{class_of}
 use Rattle.class_pool.specs.ClassGrammar.{IsClass}
 
@@ -12,6 +12,10 @@ use Rattle.class_pool.specs.ClassGrammar.{IsClass}
 abbrev pub ClassFaultOf : List ℕ → ClassFault → Type 0
 ClassFaultOf file fault = class_of file ≡ Err fault
 
--- Memory ran out; or this is the first fault of the file, which is no class file.
+-- Memory ran out, which says nothing of the file; or this is its first fault, and it is no class file.
+abbrev pub IsFaultBy : ClassCode → List ℕ → ClassFault → Type 0
+IsFaultBy Memory file fault = fault.place ≡ 0
+IsFaultBy _ file fault = ClassFaultOf file fault × ((class : ClassFile) → IsClass file class → ⊥)
+
 abbrev pub IsFault : List ℕ → ClassFault → Type 0
-IsFault file f = (f ≡ fault Memory 0) ⊎ (ClassFaultOf file f × ((class : ClassFile) → IsClass file class → ⊥))
+IsFault file fault = IsFaultBy fault.code file fault

@@ -1,5 +1,5 @@
 -- What the parts of the decision say of the first form.
-use Rattle.std.proofs.Common.{◌≡◌, ◌∙◌, ℕ, zero, suc, ◌<◌, ◌^◌, Bool, true, false, cond, not, nat_lt, ◌==◌, List, [], ◌∷◌, length, get_or, Option, Some, None, option_map, option_and_then, slice_get, bit_and, ⊎_elim, refl, sym, ap, subst, arith}
+use Rattle.std.proofs.Common.{◌≡◌, ◌∙◌, ℕ, zero, suc, ◌<◌, ◌^◌, Bool, true, false, cond, not, nat_lt, ◌==◌, List, [], ◌∷◌, length, get_or, Option, Some, None, option_map, option_and_then, slice_get, bit_and, refl, sym, ap, subst, arith}
 use Rattle.std.proofs.lemmas.List.{length-map}
 use Rattle.std.proofs.lemmas.Bool.{ltb-true}
 use Rattle.std.proofs.lemmas.Option.{none-some, slice_get_read, slice_get-map, same_Some}
@@ -30,9 +30,10 @@ use Rattle.jo_policy.specs.PolicyFile.{policy_of}
 use Rattle.joana_cli.specs.Decision.{MakesProgram, IsFormOf, IsVerdict, Decides}
 use Rattle.joana_cli.specs.declared.check.Decision.{Decision}
 use Rattle.joana_cli.specs.declared.check.Decision.TheVariants.{NotBuilt, Accepted, Refused}
+use Rattle.class_pool.specs.declared.faults.ClassCode.{ClassCode}
 use Rattle.class_pool.specs.declared.faults.ClassCode.TheVariants.{Memory as OutOfMemory}
 use Rattle.class_pool.specs.declared.faults.ClassFault.{ClassFault}
-use Rattle.class_read.specs.Faults.{IsFault}
+use Rattle.class_read.specs.Faults.{IsFaultBy, IsFault}
 use Rattle.joana_cli.specs.FirstForm.{is_bare, is_of_prelude, is_under_object, IsFirstForm}
 use Rattle.low_run.proofs.Verdicts.{true_not_false}
 
@@ -49,8 +50,12 @@ pub few_methods : (bytes : List ℕ) (file : ClassFile) → IsClass bytes file �
 few_methods bytes file is = omega (arith, is.methods.2)
 
 -- memory wasn't wanting, so the fault is the file's
+fault_by_code : (bytes : List ℕ) (code : ClassCode) (f : ClassFault) → (code ≡ OutOfMemory → ⊥) → IsFaultBy code bytes f → (file : ClassFile) → IsClass bytes file → ⊥
+fault_by_code bytes OutOfMemory f not_memory is = absurd (not_memory refl)
+fault_by_code bytes _ f not_memory is = is.1
+
 pub fault_of_file : (bytes : List ℕ) (f : ClassFault) → (f.code ≡ OutOfMemory → ⊥) → IsFault bytes f → (file : ClassFile) → IsClass bytes file → ⊥
-fault_of_file bytes f not_memory is = ⊎_elim (λ wanting. absurd (not_memory (ap (λ (g : ClassFault). g.code) wanting))) (λ h. h.1) is
+fault_of_file bytes f not_memory is = fault_by_code bytes f.code f not_memory is
 
 pub too_large : (bytes : List ℕ) → 2147483647 < length bytes → (file : ClassFile) → length bytes < 2 ^ 31 → IsClass bytes file → ⊥
 too_large bytes large file small is = omega arith
