@@ -31,6 +31,9 @@ one_class file class other all first second =
     let again = (reading_is_the_grammar file other all).1 second in
     cc (read, again)
 
+pub one_fault : (file : List ℕ) (f other : ClassFault) → ClassFaultOf file f → ClassFaultOf file other → f ≡ other
+one_fault file f other first second = cc (first, second)
+
 pub not_both : (file : List ℕ) (class : ClassFile) (f : ClassFault) → AllBytes file → IsClass file class → ClassFaultOf file f → ⊥
 not_both file class f all is failed = let read = (reading_is_the_grammar file class all).1 is in absurd (cc (read, failed))
 

@@ -174,7 +174,7 @@ module _ (size : ℕ) (pool : List PoolEntry) where
   -- ---- fields
 
   constant_owns : (desc : ℕ) (known : Option ℕ) (place count : ℕ) (rest : List ℕ) → Owns (constant_value size pool desc known place count rest)
-  constant_owns desc known place count rest = 
+  constant_owns desc known place count rest =
       by_answer _ (number size 2 rest) (λ f failed. rw failed (either _ (fails_so ((number_owns size 2 rest).failed f failed)) (fails_so tt)))
       (λ index is. rw is (either _ (either _ goes_well (fails_so tt)) (fails_so tt)))
 

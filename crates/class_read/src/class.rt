@@ -19,6 +19,7 @@ const MAGIC: u32 = 0xcafebabe;
 
 /// The versions that are read.
 const OLDEST: u16 = 45;
+
 const NEWEST: u16 = 52;
 
 /// The version behind the magic number, and what follows.

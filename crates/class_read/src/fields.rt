@@ -81,7 +81,15 @@ fn field_attribute<'a>(
     let (name, count_rest) = text_index(size, pool, rest)?;
     let (count, rest) = number_of_four(size, count_rest)?;
     if has_flag(STATIC, flags) && is_named(pool, b"ConstantValue", name) {
-        return constant_value(size, pool, desc, known, place_of(size, count_rest), count, rest);
+        return constant_value(
+            size,
+            pool,
+            desc,
+            known,
+            place_of(size, count_rest),
+            count,
+            rest,
+        );
     }
     let (_, rest) = bytes_of(size, count as usize, rest)?;
     Ok((known, rest))

@@ -5,6 +5,7 @@ mod class;
 mod code;
 mod fields;
 mod instructions;
+pub mod laws;
 mod methods;
 mod parts;
 

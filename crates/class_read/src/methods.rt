@@ -96,7 +96,11 @@ fn method_fault(wide: bool, flags: u16, codes: &[CodeInfo]) -> Option<ClassCode>
     if has_flag(SYNCHRONIZED, flags) {
         return Some(ClassCode::Unsupported(Cut::Synchronized));
     }
-    let bodies = if is_native || has_flag(ABSTRACT, flags) { 0 } else { 1 };
+    let bodies = if is_native || has_flag(ABSTRACT, flags) {
+        0
+    } else {
+        1
+    };
     if codes.len() != bodies {
         return Some(ClassCode::CodeBounds);
     }

@@ -11,10 +11,13 @@ use class_pool::items::{bytes_of, fault_at, number_of_four, number_of_two, place
 use class_pool::{ClassCode, MemberKind, PoolEntry, Stop, class_name_at, utf8_at};
 use jo_text::{is_field_desc, is_member_name, is_method_desc};
 
-/// The flags that matter here (4.5, 4.6).
+// Flags of fields and methods (4.5, 4.6).
 pub const STATIC: u16 = 0x0008;
+
 pub const SYNCHRONIZED: u16 = 0x0020;
+
 pub const NATIVE: u16 = 0x0100;
+
 pub const ABSTRACT: u16 = 0x0400;
 
 /// Whether the flag is set.
@@ -44,7 +47,11 @@ pub fn dims_at(pool: &[PoolEntry], index: u16) -> Option<usize>
 }
 
 /// The index of a class that is no array, and what follows.
-pub fn class_index<'a>(size: u32, pool: &[PoolEntry], rest: &'a [u8]) -> Result<(u16, &'a [u8]), Stop>
+pub fn class_index<'a>(
+    size: u32,
+    pool: &[PoolEntry],
+    rest: &'a [u8],
+) -> Result<(u16, &'a [u8]), Stop>
     ensures { Gives (λ x. (x.0, x.1.now)) result (index_of_class size pool.now rest.now) }
 {
     let (index, behind) = number_of_two(size, rest)?;
@@ -56,7 +63,11 @@ pub fn class_index<'a>(size: u32, pool: &[PoolEntry], rest: &'a [u8]) -> Result<
 }
 
 /// The index of a text, and what follows.
-pub fn text_index<'a>(size: u32, pool: &[PoolEntry], rest: &'a [u8]) -> Result<(u16, &'a [u8]), Stop>
+pub fn text_index<'a>(
+    size: u32,
+    pool: &[PoolEntry],
+    rest: &'a [u8],
+) -> Result<(u16, &'a [u8]), Stop>
     ensures { Gives (λ x. (x.0, x.1.now)) result (index_of_text size pool.now rest.now) }
 {
     let (index, behind) = number_of_two(size, rest)?;
