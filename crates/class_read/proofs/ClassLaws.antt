@@ -11,7 +11,7 @@ use Rattle.class_pool.specs.Outcomes.{Fails}
 use Rattle.class_pool.specs.Stops.{fault_of}
 use Rattle.class_pool.specs.ClassOrder.{class_of}
 use Rattle.class_pool.specs.ClassGrammar.{IsClass}
-use Rattle.class_pool.proofs.GrammarClass.{reading_is_the_grammar}
+use Rattle.class_pool.proofs.GrammarClass.{reading_is_the_grammar, no_class}
 use Rattle.class_read.specs.Faults.{ClassFaultOf, IsFaultBy, IsFault}
 use Rattle.class_read.proofs.OwnFaults.{IsOwn, class_owns}
 
@@ -25,22 +25,13 @@ all_bytes (byte ∷ rest) each = (omega (arith, each 0), all_bytes rest (λ k. e
 pub class_is_read : (file : List ℕ) (class : ClassFile) → AllBytes file → class_of file ≡ Ok class → IsClass file class
 class_is_read file class all read = (reading_is_the_grammar file class all).0 read
 
-pub one_class : (file : List ℕ) (class other : ClassFile) → AllBytes file → IsClass file class → IsClass file other → class ≡ other
-one_class file class other all first second =
-    let read = (reading_is_the_grammar file class all).1 first in
-    let again = (reading_is_the_grammar file other all).1 second in
-    cc (read, again)
-
 pub one_fault : (file : List ℕ) (f other : ClassFault) → ClassFaultOf file f → ClassFaultOf file other → f ≡ other
 one_fault file f other first second = cc (first, second)
 
-pub not_both : (file : List ℕ) (class : ClassFile) (f : ClassFault) → AllBytes file → IsClass file class → ClassFaultOf file f → ⊥
-not_both file class f all is failed = let read = (reading_is_the_grammar file class all).1 is in absurd (cc (read, failed))
+fault_by_code : (code : ClassCode) (file : List ℕ) (f : ClassFault) → IsOwn code → ClassFaultOf file f → IsFaultBy code file f
+fault_by_code codes.Memory file f own failed = absurd own
+fault_by_code _ file f own failed = (failed, no_class file f failed)
 
-fault_by_code : (code : ClassCode) (file : List ℕ) (f : ClassFault) → AllBytes file → IsOwn code → ClassFaultOf file f → IsFaultBy code file f
-fault_by_code codes.Memory file f all own failed = absurd own
-fault_by_code _ file f all own failed = (failed, λ class is. not_both file class f all is failed)
-
-pub stop_is_fault : (file : List ℕ) (stop : Stop) → AllBytes file → Fails stop (class_of file) → IsFault file (fault_of stop)
-stop_is_fault file Memory all failed = refl
-stop_is_fault file (Fault f) all failed = fault_by_code f.code file f all ((class_owns file).failed f failed) failed
+pub stop_is_fault : (file : List ℕ) (stop : Stop) → Fails stop (class_of file) → IsFault file (fault_of stop)
+stop_is_fault file Memory failed = refl
+stop_is_fault file (Fault f) failed = fault_by_code f.code file f ((class_owns file).failed f failed) failed
