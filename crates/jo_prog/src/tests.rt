@@ -110,8 +110,10 @@ fn outcome(
 }
 
 fn program(alloc: Global) -> Result<Program, Fail> {
-    let class = read_class(alloc, &MAIN)?.ok_or("it is a class")?;
-    Ok(link(alloc, &class)?)
+    match read_class(alloc, &MAIN) {
+        Ok(class) if class.methods.as_slice().len() == 4 => Ok(link(alloc, &class)?),
+        _ => Err(Fail::from("a class with four methods")),
+    }
 }
 
 #[test]

@@ -184,13 +184,9 @@ fn other_classes_are_not_built(rt: HostRuntime) -> Result<(), Fail> {
     assert_eq!(rt; with_class(alloc, 193, 1, &[0x3b])?, NOT_BUILT);
     assert_eq!(rt; with_class(alloc, 192, 2, &[0x3b, 0x1b])?, NOT_BUILT);
     assert_eq!(rt; with_class(alloc, 193, 3, &[0xb1, 0xb1, 0xb1])?, NOT_BUILT);
-    // a field, an attribute of the class, a pool tag of an int, a character of two bytes
+    // a field with a method's descriptor, an int in the place of this class, a name that no label spells
     assert_eq!(rt;
         with_class(alloc, 135, 2, &[0, 1, 0, 8, 0, 5, 0, 6, 0, 0])?,
-        NOT_BUILT
-    );
-    assert_eq!(rt;
-        with_class(alloc, 204, 2, &[0, 1, 0, 5, 0, 0, 0, 0])?,
         NOT_BUILT
     );
     assert_eq!(rt; with_class(alloc, 17, 3, &[3, 0, 0, 0, 0])?, NOT_BUILT);
@@ -209,6 +205,20 @@ fn other_classes_are_not_built(rt: HostRuntime) -> Result<(), Fail> {
         0,
     ];
     assert_eq!(rt; with_class(alloc, 137, 2, &method)?, NOT_BUILT);
+    Ok(())
+}
+
+#[test]
+fn attributes_and_other_characters_are_taken(rt: HostRuntime) -> Result<(), Fail> {
+    let alloc = rt.alloc();
+    // an attribute of the class, and a character of two bytes in the name of secret
+    let attribute = [0, 1, 0, 5, 0, 0, 0, 0];
+    assert_eq!(rt; with_class(alloc, 204, 2, &attribute)?, Status::Done);
+    let labels =
+        "[sources]\n\"Main.get()I\" = \"low\"\n\"Main.sec%C3%A9t()I\" = \"high\"\n[sinks]\n\"Main.show(I)V\" = \"low\"\n";
+    let policy = format!(in alloc; "{HEAD}{labels}")?;
+    let named = check(alloc, policy.as_str(), "c", edited(alloc, 48, 2, &[0xc3, 0xa9])?)?;
+    assert_eq!(rt; named.status, Status::Done);
     Ok(())
 }
 
