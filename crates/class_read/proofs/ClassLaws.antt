@@ -1,5 +1,5 @@
 -- What is read is one answer: a class of the grammar, or the first fault.
-use Rattle.std.proofs.Common.{◌≡◌, ℕ, ◌<◌, ◌^◌, List, [], ◌∷◌, Ok, Err, Fits, w8, suc, get_or, refl, arith}
+use Rattle.std.proofs.Common.{◌≡◌, ℕ, ◌<◌, ◌^◌, List, [], ◌∷◌, Ok, Fits, w8, suc, get_or, refl, arith}
 use Rattle.std.specs.List.{AllByRecursion}
 use Rattle.class_pool.specs.declared.classes.ClassFile.{ClassFile}
 use Rattle.class_pool.specs.declared.faults.ClassCode.{ClassCode}

@@ -1,5 +1,5 @@
 -- The loop over the attributes of a field.
-use Rattle.std.proofs.Common.{◌≡◌, ℕ, suc, ◌-◌, ◌+◌, ◌≤◌, ◌<◌, List, Option, Result, Ok, Err, refl, sym, ap, ◌∙◌, arith}
+use Rattle.std.proofs.Common.{◌≡◌, ℕ, suc, ◌-◌, ◌+◌, ◌≤◌, ◌<◌, List, Option, Result, Ok, refl, sym, ap, ◌∙◌, arith}
 use Rattle.class_pool.specs.declared.entries.PoolEntry.{PoolEntry}
 use Rattle.class_pool.specs.declared.faults.ClassFault.{ClassFault}
 use Rattle.class_pool.specs.declared.faults.Stop.{Stop}

@@ -1,5 +1,5 @@
 -- The loop over the attributes of a method.
-use Rattle.std.proofs.Common.{◌≡◌, ℕ, suc, ◌-◌, ◌+◌, ◌≤◌, ◌<◌, Bool, true, false, List, [], ◌++◌, Option, Result, Ok, Err, refl, sym, ap, ◌∙◌, append_assoc, arith}
+use Rattle.std.proofs.Common.{◌≡◌, ℕ, suc, ◌-◌, ◌+◌, ◌≤◌, ◌<◌, Bool, true, false, List, ◌++◌, Option, Result, Ok, Err, refl, sym, ap, ◌∙◌, append_assoc, arith}
 use Rattle.std.specs.Prelude.{codes}
 use Rattle.class_pool.specs.declared.entries.PoolEntry.{PoolEntry}
 use Rattle.class_pool.specs.declared.classes.CodeInfo.{CodeInfo}
@@ -11,6 +11,7 @@ use Rattle.class_pool.specs.Pool.{utf8_at}
 use Rattle.class_pool.specs.ClassOrder.{text_index, is_named, read_code, method_attributes}
 use Rattle.class_pool.specs.ClassGrammar.{codes_in}
 use Rattle.class_pool.specs.Outcomes.{Fails}
+use Rattle.class_pool.proofs.GrammarNumbers.{by_answer}
 use Rattle.class_pool.proofs.Many.{with_front, is_done}
 use Rattle.class_read.specs.Methods.{method_attribute}
 
@@ -18,21 +19,17 @@ by_test : (P : Type 0) (test : Bool) → (test ≡ true → P) → (test ≡ fal
 by_test P true passed failed = passed refl
 by_test P false passed failed = failed refl
 
-pub by_answer : {X : Type 0} (P : Type 0) (read : Result X ClassFault) → ((f : ClassFault) → read ≡ Err f → P) → ((x : X) → read ≡ Ok x → P) → P
-by_answer P (Err f) failed goes = failed f refl
-by_answer P (Ok x) failed goes = goes x refl
-
 abbrev after_one : ℕ → List PoolEntry → ℕ → Result (Option CodeInfo × List ℕ) ClassFault → Result (List CodeInfo × List ℕ) ClassFault
 after_one size pool n first = first >>= λ x. with_front (codes_in x.0) (method_attributes size pool n x.1)
 
 pub first_attribute : (size : ℕ) (pool : List PoolEntry) (n : ℕ) (rest : List ℕ) → method_attributes size pool (suc n) rest ≡ after_one size pool n (method_attribute size pool rest)
 unfolding method_attributes method_attribute
 first_attribute size pool n rest =
-    by_answer _ (text_index size pool rest) (λ f failed. rw failed refl) (λ name named.
-    by_answer _ (number size 4 name.1) (λ f failed. rw (named, failed) refl) (λ count counted.
+    by_answer (text_index size pool rest) (λ f failed. rw failed refl) (λ name named.
+    by_answer (number size 4 name.1) (λ f failed. rw (named, failed) refl) (λ count counted.
     by_test _ (is_named (codes "Code") (utf8_at pool name.0))
-    (λ is_code. by_answer _ (read_code size pool (place_of size name.1) count.0 count.1) (λ f failed. rw (named, counted, is_code, failed) refl) (λ c is. rw (named, counted, is_code, is) refl))
-    (λ other. by_answer _ (bytes_of size count.0 count.1) (λ f failed. rw (named, counted, other, failed) refl) (λ content is. rw (named, counted, other, is) refl))))
+    (λ is_code. by_answer (read_code size pool (place_of size name.1) count.0 count.1) (λ f failed. rw (named, counted, is_code, failed) refl) (λ c is. rw (named, counted, is_code, is) refl))
+    (λ other. by_answer (bytes_of size count.0 count.1) (λ f failed. rw (named, counted, other, failed) refl) (λ content is. rw (named, counted, other, is) refl))))
 
 joins : (front more : List CodeInfo) (others : Result (List CodeInfo × List ℕ) ClassFault) → with_front front (with_front more others) ≡ with_front (front ++ more) others
 joins front more (Ok o) = ap (λ (xs : List CodeInfo). Ok (xs, o.1)) (sym (append_assoc front more o.0))

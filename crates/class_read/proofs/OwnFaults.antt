@@ -7,19 +7,20 @@ use Rattle.jo_insn.specs.declared.instructions.InsnFault.{InsnFault}
 use Rattle.jo_insn.specs.declared.instructions.InsnFault.TheVariants as insn_faults
 use Rattle.jo_insn.specs.Instructions.{decoded}
 use Rattle.class_pool.specs.declared.entries.PoolEntry.{PoolEntry}
-use Rattle.class_pool.specs.declared.entries.PoolEntry.TheVariants.{Second, Utf8, Integer, Float, Long, Double, Class, Text, FieldRef, MethodRef, InterfaceMethodRef, NameAndType, MethodHandle, MethodType, InvokeDynamic}
+use Rattle.class_pool.specs.declared.entries.PoolEntry.TheVariants.{Integer, Float, Long, Double, Class, Text, FieldRef, MethodRef, InterfaceMethodRef, NameAndType, MethodHandle, MethodType, InvokeDynamic}
 use Rattle.class_pool.specs.declared.classes.MemberKind.{MemberKind}
 use Rattle.class_pool.specs.declared.classes.CodeInfo.{CodeInfo}
 use Rattle.class_pool.specs.declared.classes.RowInfo.{RowInfo}
 use Rattle.class_pool.specs.declared.faults.ClassCode.{ClassCode}
 use Rattle.class_pool.specs.declared.faults.ClassCode.TheVariants.{Memory}
 use Rattle.class_pool.specs.declared.faults.ClassFault.{ClassFault}
-use Rattle.class_pool.specs.Items.{◌>>=◌, place_of, fault, passing, number, bytes_of, two_numbers, many}
+use Rattle.class_pool.specs.Items.{◌>>=◌, place_of, number, bytes_of, two_numbers, many}
 use Rattle.class_pool.specs.Pool.{entry_size, entry_at, utf8_at, first_failing, questions, unless_fault, read_utf8, read_one, read_pair, read_handle, read_indices, read_tagged, read_entry, read_entries, reference_fault, read_pool_from}
-use Rattle.class_pool.specs.Code.{Placed, is_wide_desc, code_for, constant_fault, wide_member, field_fault, method_fault, interface_fault, or_else, class_method_fault, index_unless, pooled_fault, insn_fault, placed_at, insns_from, insns_of, first_bad_jump, row_questions, row_fault}
-use Rattle.class_pool.specs.ClassOrder.{has_flag, native_flag, abstract_flag, synchronized_flag, class_index, text_index, read_head, attribute_head, skip_attribute, skip_attributes, constant_value, field_attribute, field_attributes, read_field, read_row, Spelled, read_spelled, jump_checked, row_checked, code_checked, read_code, method_attributes, method_questions, read_method, read_behind, class_of}
+use Rattle.class_pool.specs.Code.{Placed, is_wide_desc, code_for, constant_fault, wide_member, field_fault, method_fault, interface_fault, or_else, class_method_fault, index_unless, pooled_fault, insn_fault, placed_at, insns_from, first_bad_jump, row_questions, row_fault}
+use Rattle.class_pool.specs.ClassOrder.{has_flag, native_flag, abstract_flag, synchronized_flag, class_index, text_index, read_head, skip_attribute, skip_attributes, constant_value, field_attribute, field_attributes, read_field, read_row, Spelled, read_spelled, jump_checked, row_checked, code_checked, read_code, method_attributes, method_questions, read_method, read_behind, class_of}
 use Rattle.class_read.specs.Methods.{code_or_other, method_attribute}
-use Rattle.class_read.proofs.MethodSteps.{by_answer, first_attribute}
+use Rattle.class_pool.proofs.GrammarNumbers.{by_answer}
+use Rattle.class_read.proofs.MethodSteps.{first_attribute}
 
 abbrev pub IsOwn : ClassCode → Type 0
 IsOwn Memory = ⊥
@@ -62,11 +63,6 @@ either_some false this_one other_one = other_one
 after : {A B : Type 0} {read : Result A ClassFault} (more : A → Result B ClassFault) → Owns read → ((a : A) → Owns (more a)) → Owns (read >>= more)
 after {read = Err f} more first goes = fails_so (first.failed f refl)
 after {read = Ok a} more first goes = goes a
-
--- what is made of an answer by cases
-by_cases : {A B : Type 0} (read : Result A ClassFault) (made : Result A ClassFault → Result B ClassFault) → Owns read → ((f : ClassFault) → made (Err f) ≡ Err f) → ((a : A) → Owns (made (Ok a))) → Owns (made read)
-by_cases (Err f) made first same goes = record { failed = λ e is. let one : f ≡ e = cc (same f, is) in subst (λ (g : ClassFault). IsOwn g.code) one (first.failed f refl) }
-by_cases (Ok a) made first same goes = goes a
 
 by_option : {X P : Type 0} (found : Option X) → (found ≡ None → P) → ((x : X) → found ≡ Some x → P) → P
 by_option None none some = none refl
@@ -175,14 +171,14 @@ module _ (size : ℕ) (pool : List PoolEntry) where
 
   constant_owns : (desc : ℕ) (known : Option ℕ) (place count : ℕ) (rest : List ℕ) → Owns (constant_value size pool desc known place count rest)
   constant_owns desc known place count rest =
-      by_answer _ (number size 2 rest) (λ f failed. rw failed (either _ (fails_so ((number_owns size 2 rest).failed f failed)) (fails_so tt)))
+      by_answer (number size 2 rest) (λ f failed. rw failed (either _ (fails_so ((number_owns size 2 rest).failed f failed)) (fails_so tt)))
       (λ index is. rw is (either _ (either _ goes_well (fails_so tt)) (fails_so tt)))
 
   field_attribute_owns : (head : ℕ × ℕ × ℕ) (known : Option ℕ) (rest : List ℕ) → Owns (field_attribute size pool head known rest)
   unfolding field_attribute
   field_attribute_owns head known rest = after _ (text_index_owns rest) (λ name. after _ (number_owns size 4 name.1) (λ count.
       let constant = constant_owns head.2 known (place_of size name.1) count.0 count.1 in
-      by_answer _ (bytes_of size count.0 count.1) (λ f failed. rw failed (either _ constant (fails_so ((bytes_own size count.0 count.1).failed f failed)))) (λ content is. rw is (either _ constant goes_well))))
+      by_answer (bytes_of size count.0 count.1) (λ f failed. rw failed (either _ constant (fails_so ((bytes_own size count.0 count.1).failed f failed)))) (λ content is. rw is (either _ constant goes_well))))
 
   field_attributes_own : (head : ℕ × ℕ × ℕ) (n : ℕ) (known : Option ℕ) (rest : List ℕ) → Owns (field_attributes size pool head n known rest)
   unfolding field_attributes

@@ -1,5 +1,5 @@
 -- What a fault of the reader says of a file.
-use Rattle.std.specs.Prelude.{◌≡◌, ℕ, List, Ok, Err}
+use Rattle.std.specs.Prelude.{◌≡◌, ℕ, List, Err}
 use Rattle.class_pool.specs.declared.classes.ClassFile.{ClassFile}
 use Rattle.class_pool.specs.declared.faults.ClassCode.{ClassCode}
 use Rattle.class_pool.specs.declared.faults.ClassCode.TheVariants.{Memory}

@@ -1,5 +1,5 @@
 -- One attribute of a method.
-use Rattle.std.specs.Prelude.{ℕ, Bool, true, false, List, Option, Some, None, Result, Ok, Err, codes}
+use Rattle.std.specs.Prelude.{ℕ, Bool, true, false, List, Option, Some, None, Result, Ok, codes}
 use Rattle.class_pool.specs.declared.entries.PoolEntry.{PoolEntry}
 use Rattle.class_pool.specs.declared.classes.CodeInfo.{CodeInfo}
 use Rattle.class_pool.specs.declared.faults.ClassFault.{ClassFault}
