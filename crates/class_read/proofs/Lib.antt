@@ -1,0 +1,2 @@
+pub mod CodeRoom
+pub mod InsnsRead

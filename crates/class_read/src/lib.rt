@@ -6,6 +6,7 @@ mod code;
 mod fields;
 mod instructions;
 mod methods;
+mod operands;
 mod parts;
 
 pub use class::read_class;
