@@ -1,2 +1,5 @@
 pub mod CodeRoom
 pub mod InsnsRead
+pub mod CodeJumps
+pub mod CodeStarts
+pub mod CodeSwitch

@@ -5,6 +5,7 @@ mod class;
 mod code;
 mod fields;
 mod instructions;
+mod jumps;
 mod methods;
 mod operands;
 mod parts;

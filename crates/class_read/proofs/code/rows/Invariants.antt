@@ -8,5 +8,5 @@ abbrev pub invariant-loop : goal.invariant-loop
 invariant-loop l = record {
   so_far : with_front l.rows (many (read_row l.size) (l.count - l.counter) l.rest) ≡ many (read_row l.size) l.count l.fn.rest;
   counted : length l.rows ≡ l.counter;
-  eights : 8 * length l.rows + length l.rest ≡ length l.fn.rest
+  eights : 8 * length l.rows + length l.rest ≡ length l.fn.rest;
 }
