@@ -3,3 +3,4 @@ pub mod InsnsRead
 pub mod CodeJumps
 pub mod CodeStarts
 pub mod CodeSwitch
+pub mod CodeKept

@@ -6,6 +6,7 @@ mod code;
 mod fields;
 mod instructions;
 mod jumps;
+mod kept;
 mod methods;
 mod operands;
 mod parts;
