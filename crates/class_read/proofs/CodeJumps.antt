@@ -24,9 +24,6 @@ module _ (test : ℤ → Bool) (step count i : ℕ) (table : List ℕ) where
   pub stops : i < count → test offset ≡ false → list_all test (offsets_of (count - i) step table) ≡ false
   stops more fails = let one_more : count - i ≡ suc (count - (i + 1)) = omega arith in rw (one_more, fails) refl
 
-  pub ends : count ≤ i → list_all test (offsets_of (count - i) step table) ≡ true
-  ends all = let none : count - i ≡ 0 = omega arith in rw none refl
-
 -- ---- the instructions, one after another
 
 abbrev leads : List Bool → ℕ → ℤ → Bool

@@ -4,3 +4,4 @@ pub mod CodeJumps
 pub mod CodeStarts
 pub mod CodeSwitch
 pub mod CodeKept
+pub mod CodeChecked

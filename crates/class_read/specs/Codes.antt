@@ -12,9 +12,9 @@ use Rattle.class_read.specs.declared.instructions.Placed.{Placed}
 abbrev pub spelled_of : Spelled → ClassOrder.Spelled
 spelled_of s = record { max_stack = s.max_stack; max_locals = s.max_locals; code_place = s.code_place; code = s.code.now; rows_place = s.rows_place; rows = s.rows }
 
--- the places of its code and of its rows are numbers of 32 bits
+-- its code is short, and the places of its code and of its rows are numbers of 32 bits
 abbrev pub HasRoom : Spelled → Type 0
-HasRoom s = (s.code_place + length s.code.now < 2 ^ 32) × (s.rows_place + 8 * length s.rows < 2 ^ 32)
+HasRoom s = (length s.code.now < 2 ^ 16) × (s.code_place + length s.code.now < 2 ^ 32) × (s.rows_place + 8 * length s.rows < 2 ^ 32)
 
 -- ---- instructions
 

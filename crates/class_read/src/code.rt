@@ -1,14 +1,19 @@
 //! Reads the attribute Code (JVM Specification SE 8, 4.7.3).
 ghost use Rattle.std.specs.Prelude.{◌≡◌, ◌+◌, ◌*◌, ◌^◌, ◌<◌, length, IfOk};
 ghost use Rattle.class_pool.specs.Items.{many};
-ghost use Rattle.class_pool.specs.ClassOrder.{read_code, read_row, read_spelled};
+ghost use Rattle.class_pool.specs.Code.{insns_of};
+ghost use Rattle.class_pool.specs.ClassOrder.{read_code, read_row, read_spelled, code_checked};
 ghost use Rattle.class_pool.specs.Outcomes.{Gives};
 ghost use Rattle.class_read.specs.Codes.{spelled_of, HasRoom};
 
+use crate::instructions::instructions;
+use crate::jumps::{check_jumps, check_rows, starts};
+use crate::kept::kept_code;
 use crate::parts::skip_attributes;
 use class_pool::items::{bytes_of, fault_at, number_of_four, number_of_two, place_of, two_numbers};
 use class_pool::{ClassCode, CodeInfo, PoolEntry, RowInfo, Stop};
 use jo_ids::List;
+use jo_text::Name;
 use std::alloc::Global;
 
 /// The attribute as it is spelled: its limits, the place of its code and the code, the place of its rows and the rows.
@@ -94,7 +99,29 @@ fn attribute<'a>(
     Ok((spelled, end))
 }
 
+/// The code that is kept, where its instructions, jumps and rows pass.
+fn checked(alloc: Global, pool: &[PoolEntry], spelled: &Spelled) -> Result<Name, Stop>
+    requires { HasRoom spelled.now }
+    ensures { Gives (λ x. x) result (code_checked pool.now (spelled_of spelled.now) (insns_of pool.now spelled.now.code.now)) }
+{
+    let code = spelled.code;
+    let insns = instructions(alloc, spelled.code_place, pool, code)?;
+    let insns = insns.as_slice();
+    let starts = starts(alloc, code.len(), insns)?;
+    let starts = starts.as_slice();
+    check_jumps(spelled.code_place, starts, code, insns)?;
+    check_rows(
+        spelled.rows_place,
+        pool,
+        starts,
+        code.len(),
+        spelled.rows.as_slice(),
+    )?;
+    Ok(kept_code(alloc, pool, code, insns)?)
+}
+
 /// The code behind the length `count` of its attribute, which stands at `place`, and what follows.
+#[tactic(auto, unfolding(class_pool::specs::ClassOrder::read_code))]
 pub fn code<'a>(
     alloc: Global,
     size: u32,
@@ -105,5 +132,13 @@ pub fn code<'a>(
 ) -> Result<(CodeInfo, &'a [u8]), Stop>
     ensures { Gives (λ x. (x.0, x.1.now)) result (read_code size pool.now place count rest.now) }
 {
-    Err(Stop::Memory)
+    let (spelled, rest) = attribute(alloc, size, pool, place, count, rest)?;
+    let bytes = checked(alloc, pool, &spelled)?;
+    let code = CodeInfo {
+        max_stack: spelled.max_stack,
+        max_locals: spelled.max_locals,
+        bytes,
+        rows: spelled.rows,
+    };
+    Ok((code, rest))
 }
