@@ -3,3 +3,10 @@ mod FieldSteps
 mod MethodSteps
 mod OwnFaults
 mod Skipping
+pub mod CodeRoom
+pub mod InsnsRead
+pub mod CodeJumps
+pub mod CodeStarts
+pub mod CodeSwitch
+pub mod CodeKept
+pub mod CodeChecked

@@ -1,12 +1,127 @@
 //! Reads the attribute Code (JVM Specification SE 8, 4.7.3).
-ghost use Rattle.std.specs.Prelude.{◌≡◌};
-ghost use Rattle.class_pool.specs.ClassOrder.{read_code};
+ghost use Rattle.std.specs.Prelude.{◌≡◌, ◌+◌, ◌*◌, ◌^◌, ◌<◌, length, IfOk};
+ghost use Rattle.class_pool.specs.Items.{many};
+ghost use Rattle.class_pool.specs.Code.{insns_of};
+ghost use Rattle.class_pool.specs.ClassOrder.{read_code, read_row, read_spelled, code_checked};
 ghost use Rattle.class_pool.specs.Outcomes.{Gives};
+ghost use Rattle.class_read.specs.Codes.{spelled_of, HasRoom};
 
-use class_pool::{CodeInfo, PoolEntry, Stop};
+use crate::instructions::instructions;
+use crate::jumps::{check_jumps, check_rows, starts};
+use crate::kept::kept_code;
+use crate::parts::skip_attributes;
+use class_pool::items::{bytes_of, fault_at, number_of_four, number_of_two, place_of, two_numbers};
+use class_pool::{ClassCode, CodeInfo, PoolEntry, RowInfo, Stop};
+use jo_ids::List;
+use jo_text::Name;
 use std::alloc::Global;
 
+/// The attribute as it is spelled: its limits, the place of its code and the code, the place of its rows and the rows.
+#[derive(Drop)]
+pub struct Spelled<'a> {
+    pub max_stack: u16,
+    pub max_locals: u16,
+    pub code_place: u32,
+    pub code: &'a [u8],
+    pub rows_place: u32,
+    pub rows: List<RowInfo>,
+}
+
+fn row(size: u32, rest: &[u8]) -> Result<(RowInfo, &[u8]), Stop>
+    ensures value { Gives (λ x. (x.0, x.1.now)) result (read_row size rest.now) }
+    ensures eight { IfOk result (λ x. 8 + length x.1.now ≡ length rest.now) }
+{
+    let ((start, end), rest) = two_numbers(size, rest)?;
+    let ((handler, catch_type), rest) = two_numbers(size, rest)?;
+    let row = RowInfo {
+        start,
+        end,
+        handler,
+        catch_type,
+    };
+    Ok((row, rest))
+}
+
+/// So many rows, and what follows.
+fn rows<'a>(
+    alloc: Global,
+    size: u32,
+    count: u16,
+    rest: &'a [u8],
+) -> Result<(List<RowInfo>, &'a [u8]), Stop>
+    ensures value { Gives (λ x. (x.0, x.1.now)) result (many (read_row size) count rest.now) }
+    ensures few { IfOk result (λ x. length x.0 < 2 ^ 16) }
+    ensures eights { IfOk result (λ x. 8 * length x.0 + length x.1.now ≡ length rest.now) }
+{
+    let mut rows = List::new(alloc);
+    let mut rest = rest;
+    for _ in 0..count {
+        let (found, behind) = row(size, rest)?;
+        rows.push(found)?;
+        rest = behind;
+    }
+    Ok((rows, rest))
+}
+
+/// The attribute behind its length `count`, which stands at `place`, and what follows.
+#[tactic(auto, unfolding(class_pool::specs::ClassOrder::read_spelled))]
+fn attribute<'a>(
+    alloc: Global,
+    size: u32,
+    pool: &[PoolEntry],
+    place: u32,
+    count: u32,
+    rest: &'a [u8],
+) -> Result<(Spelled<'a>, &'a [u8]), Stop>
+    ensures value { Gives (λ x. (spelled_of x.0, x.1.now)) result (read_spelled size pool.now place count rest.now) }
+    ensures room { IfOk result (λ x. HasRoom x.0) }
+{
+    let ((max_stack, max_locals), behind_limits) = two_numbers(size, rest)?;
+    let (code_count, behind_count) = number_of_four(size, behind_limits)?;
+    if code_count < 1 || 65535 < code_count {
+        return Err(fault_at(ClassCode::CodeBounds, place_of(size, behind_limits)));
+    }
+    let (code, behind_code) = bytes_of(size, code_count as usize, behind_count)?;
+    let (row_count, behind_row_count) = number_of_two(size, behind_code)?;
+    let (rows, behind_rows) = rows(alloc, size, row_count, behind_row_count)?;
+    let end = skip_attributes(size, pool, behind_rows)?;
+    if rest.len().saturating_sub(end.len()) != count as usize {
+        return Err(fault_at(ClassCode::CodeBounds, place));
+    }
+    let spelled = Spelled {
+        max_stack,
+        max_locals,
+        code_place: place_of(size, behind_count),
+        code,
+        rows_place: place_of(size, behind_row_count),
+        rows,
+    };
+    Ok((spelled, end))
+}
+
+/// The code that is kept, where its instructions, jumps and rows pass.
+fn checked(alloc: Global, pool: &[PoolEntry], spelled: &Spelled) -> Result<Name, Stop>
+    requires { HasRoom spelled.now }
+    ensures { Gives (λ x. x) result (code_checked pool.now (spelled_of spelled.now) (insns_of pool.now spelled.now.code.now)) }
+{
+    let code = spelled.code;
+    let insns = instructions(alloc, spelled.code_place, pool, code)?;
+    let insns = insns.as_slice();
+    let starts = starts(alloc, code.len(), insns)?;
+    let starts = starts.as_slice();
+    check_jumps(spelled.code_place, starts, code, insns)?;
+    check_rows(
+        spelled.rows_place,
+        pool,
+        starts,
+        code.len(),
+        spelled.rows.as_slice(),
+    )?;
+    Ok(kept_code(alloc, pool, code, insns)?)
+}
+
 /// The code behind the length `count` of its attribute, which stands at `place`, and what follows.
+#[tactic(auto, unfolding(class_pool::specs::ClassOrder::read_code))]
 pub fn code<'a>(
     alloc: Global,
     size: u32,
@@ -17,5 +132,13 @@ pub fn code<'a>(
 ) -> Result<(CodeInfo, &'a [u8]), Stop>
     ensures { Gives (λ x. (x.0, x.1.now)) result (read_code size pool.now place count rest.now) }
 {
-    Err(Stop::Memory)
+    let (spelled, rest) = attribute(alloc, size, pool, place, count, rest)?;
+    let bytes = checked(alloc, pool, &spelled)?;
+    let code = CodeInfo {
+        max_stack: spelled.max_stack,
+        max_locals: spelled.max_locals,
+        bytes,
+        rows: spelled.rows,
+    };
+    Ok((code, rest))
 }

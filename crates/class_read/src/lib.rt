@@ -5,8 +5,11 @@ mod class;
 mod code;
 mod fields;
 mod instructions;
+mod jumps;
+mod kept;
 pub mod laws;
 mod methods;
+mod operands;
 mod parts;
 
 pub use class::read_class;

@@ -1,0 +1,21 @@
+use Rattle.std.proofs.Common.{◌≡◌, ℕ, ◌+◌, ◌*◌, ◌-◌, ◌≤◌, length, drop, ap, ◌∙◌, arith}
+use Rattle.std.specs.Prelude.{unsigned_abs, ◌-ℤ◌}
+use Rattle.std.proofs.lemmas.List.{length-drop}
+use Rattle.jo_insn.specs.Instructions.{decoded, offsets_between}
+use Rattle.class_read.proofs.CodeSwitch.{offsets_end, count_is, pairs_end, four_apart, eight_apart}
+use Rattle.class_read.proofs.jumps.jumps_well.Goals as goal
+
+pub offsets_well-requires : goal.offsets_well-requires
+offsets_well-requires c =
+    let is = rw c.in-TableSwitch.is at c.requires in
+    let bytes = λ (k : ℕ). (c.type_inv.code k).fits in
+    let e = offsets_end c.args.code.now bytes c.args.placed.now.pc c.args.placed.now.next c.in-TableSwitch.other c.in-TableSwitch.low c.in-TableSwitch.high c.in-TableSwitch.at is in
+    let count = count_is c.args.code.now bytes c.args.placed.now.pc c.args.placed.now.next c.in-TableSwitch.other c.in-TableSwitch.low c.in-TableSwitch.high c.in-TableSwitch.at is in
+    let left = length-drop c.in-TableSwitch.at c.args.code.now in
+    rw (c.behind.ensures, c.from-count.ensures, c.abs_diff.ensures, count) (four_apart (offsets_between c.in-TableSwitch.low c.in-TableSwitch.high) (drop c.in-TableSwitch.at c.args.code.now) (omega (arith, e.0, e.1)))
+
+pub offsets_well-requires-then-jumps_to_start-2 : goal.offsets_well-requires-then-jumps_to_start-2
+offsets_well-requires-then-jumps_to_start-2 c =
+    let e = pairs_end c.args.code.now (λ k. (c.type_inv.code k).fits) c.args.placed.now.pc c.args.placed.now.next c.in-LookupSwitch.other c.in-LookupSwitch.pairs c.in-LookupSwitch.at (rw c.in-LookupSwitch.is at c.requires) in
+    let left = length-drop (c.in-LookupSwitch.at + 4) c.args.code.now in
+    rw (c.behind-then-jumps_to_start-2.ensures, c.from.ensures) (eight_apart c.in-LookupSwitch.pairs (drop (c.in-LookupSwitch.at + 4) c.args.code.now) (omega (arith, e.0, e.1)))
