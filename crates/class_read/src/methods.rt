@@ -1,45 +1,18 @@
 //! Reads methods (JVM Specification SE 8, 4.6).
 ghost use Rattle.std.specs.Prelude.{◌≡◌, false};
 ghost use Rattle.class_pool.specs.Items.{many};
-ghost use Rattle.class_pool.specs.Pool.{utf8_at as utf8_with, first_failing};
-ghost use Rattle.class_pool.specs.Code.{names_wide, is_wide_desc as is_wide_text};
+ghost use Rattle.class_pool.specs.Pool.{first_failing};
 ghost use Rattle.class_pool.specs.ClassOrder.{method_attributes as read_attributes, method_questions, first_code as first_of_codes, read_method};
 ghost use Rattle.class_pool.specs.Outcomes.{Gives};
 ghost use Rattle.class_read.specs.Methods.{method_attribute as read_attribute};
 
 use crate::code::code;
+use crate::operands::is_wide_desc;
 use crate::parts::{ABSTRACT, NATIVE, SYNCHRONIZED, has_flag, head, is_named, text_index};
 use class_pool::items::{bytes_of, fault_at, number_of_four, number_of_two, place_of};
 use class_pool::{ClassCode, CodeInfo, Cut, MemberKind, MethodInfo, PoolEntry, Stop, utf8_at};
 use jo_ids::List;
 use std::alloc::{AllocError, Global};
-
-/// Whether some base type of the descriptor is a long, a float or a double.
-fn is_wide_desc(desc: &[u8]) -> bool
-    ensures { result ≡ names_wide false desc.now }
-{
-    let mut in_name = false;
-    for byte in desc {
-        if in_name {
-            in_name = *byte != b';';
-        } else if matches!(*byte, b'D' | b'F' | b'J') {
-            return true;
-        } else {
-            in_name = *byte == b'L';
-        }
-    }
-    false
-}
-
-/// Whether the text with that index is such a descriptor.
-fn has_wide_desc(pool: &[PoolEntry], desc: u16) -> bool
-    ensures { result ≡ is_wide_text (utf8_with pool.now desc) }
-{
-    match utf8_at(pool, desc) {
-        Some(text) => is_wide_desc(text),
-        None => false,
-    }
-}
 
 /// The Code of an attribute, where it is one, and what follows.
 #[tactic(auto, unfolding(crate::specs::Methods::method_attribute))]
@@ -125,7 +98,8 @@ fn method<'a>(
     let ((flags, name, desc), count_rest) = head(size, pool, MemberKind::Method, rest)?;
     let (count, attributes) = number_of_two(size, count_rest)?;
     let (codes, behind) = method_attributes(alloc, size, pool, count, attributes)?;
-    if let Some(code) = method_fault(has_wide_desc(pool, desc), flags, codes.as_slice()) {
+    let wide = is_wide_desc(utf8_at(pool, desc));
+    if let Some(code) = method_fault(wide, flags, codes.as_slice()) {
         return Err(fault_at(code, place_of(size, rest)));
     }
     let method = MethodInfo {

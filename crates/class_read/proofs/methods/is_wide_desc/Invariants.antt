@@ -1,6 +1,0 @@
-use Rattle.std.proofs.Common.{◌≡◌, false, drop}
-use Rattle.class_pool.specs.Code.{names_wide}
-use Rattle.class_read.proofs.methods.is_wide_desc.Given as goal
-
-abbrev pub invariant-loop-byte : goal.invariant-loop-byte
-invariant-loop-byte l = names_wide l.in_name (drop l.byte-index l.desc) ≡ names_wide false l.desc
