@@ -5,9 +5,7 @@ ghost use Rattle.jo_prog.specs.declared.program.Operand.TheVariants.{Unused};
 ghost use Rattle.jo_prog.specs.Linking.{object_class, count_from, text_at, member_named, operand_of, code_of, method_of, this_class_of, program_of};
 
 use crate::program::{Class, Code, MemberRef, Method, Operand, Program, TypeRef};
-use class_pool::{
-    ClassFile, CodeInfo, MethodInfo, PoolEntry, class_name_at, entry_at, utf8_at,
-};
+use class_pool::{ClassFile, CodeInfo, MethodInfo, PoolEntry, class_name_at, entry_at, utf8_at};
 use jo_ids::{ClassId, List, Memory, MethodId};
 use jo_text::Name;
 use std::alloc::Global;

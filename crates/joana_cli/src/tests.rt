@@ -217,7 +217,12 @@ fn attributes_and_other_characters_are_taken(rt: HostRuntime) -> Result<(), Fail
     let labels =
         "[sources]\n\"Main.get()I\" = \"low\"\n\"Main.sec%C3%A9t()I\" = \"high\"\n[sinks]\n\"Main.show(I)V\" = \"low\"\n";
     let policy = format!(in alloc; "{HEAD}{labels}")?;
-    let named = check(alloc, policy.as_str(), "c", edited(alloc, 48, 2, &[0xc3, 0xa9])?)?;
+    let named = check(
+        alloc,
+        policy.as_str(),
+        "c",
+        edited(alloc, 48, 2, &[0xc3, 0xa9])?,
+    )?;
     assert_eq!(rt; named.status, Status::Done);
     Ok(())
 }
