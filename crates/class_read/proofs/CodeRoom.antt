@@ -1,5 +1,5 @@
 -- The parts of an attribute Code lie within the file.
-use Rattle.std.proofs.Common.{◌≡◌, ℕ, ◌<◌, ◌≤◌, ◌+◌, ◌-◌, ◌*◌, ◌^◌, Bool, true, false, cond, nat_lt, List, length, take, drop, Result, Ok, Err, sym, ap, ◌∙◌, arith}
+use Rattle.std.proofs.Common.{◌≡◌, ℕ, ◌≤◌, Bool, true, false, cond, nat_lt, List, length, take, drop, Ok, Err, ap, arith}
 use Rattle.std.proofs.lemmas.List.{length-take}
 use Rattle.class_pool.specs.declared.faults.ClassFault.{ClassFault}
 use Rattle.class_pool.specs.declared.faults.ClassCode.TheVariants.{Truncated}

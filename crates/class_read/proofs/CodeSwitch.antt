@@ -1,5 +1,5 @@
 -- The offsets of a switch that was decoded lie within its code.
-use Rattle.std.proofs.Common.{◌≡◌, ℕ, zero, suc, ◌+◌, ◌-◌, ◌*◌, ◌^◌, ◌<◌, ◌≤◌, List, [], ◌∷◌, length, take, drop, Ok, refl, ap, arith}
+use Rattle.std.proofs.Common.{◌≡◌, ℕ, zero, suc, ◌+◌, ◌-◌, ◌*◌, ◌^◌, ◌<◌, ◌≤◌, List, [], ◌∷◌, length, drop, Ok, refl, ap, arith}
 use Rattle.std.specs.Prelude.{ℤ, ◌-ℤ◌, unsigned_abs}
 use mir.Syntax.{w32}
 use mir.Val.{SFits, to_z, of_z}

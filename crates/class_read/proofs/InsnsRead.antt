@@ -1,5 +1,5 @@
 -- The loop that reads the instructions of code one after another.
-use Rattle.std.proofs.Common.{◌≡◌, ℕ, zero, suc, ◌+◌, ◌<◌, ◌≤◌, nat_le, List, [], ◌∷◌, ◌++◌, length, Option, Some, None, Result, Ok, Err, refl, sym, ap, ◌∙◌, append_assoc, arith}
+use Rattle.std.proofs.Common.{◌≡◌, ℕ, zero, suc, ◌+◌, ◌<◌, ◌≤◌, List, [], ◌∷◌, ◌++◌, length, Option, Some, None, Result, Ok, Err, refl, sym, ap, ◌∙◌, append_assoc, arith}
 use Rattle.std.proofs.lemmas.Bool.{le-leb, lt-leb}
 use Rattle.std.proofs.lemmas.List.{append-nil}
 use Rattle.jo_insn.specs.declared.instructions.Insn.{Insn}
@@ -12,7 +12,6 @@ use Rattle.class_pool.specs.declared.faults.ClassFault.{ClassFault}
 use Rattle.class_pool.specs.declared.faults.Stop.{Stop}
 use Rattle.class_pool.specs.declared.faults.Stop.TheVariants.{Fault, Memory}
 use Rattle.class_pool.specs.Outcomes.{Fails}
-use Rattle.class_pool.specs.Items.{fault}
 use Rattle.class_pool.specs.Code.{Placed, insn_fault, placed_at, insns_from, insns_of}
 use Rattle.class_read.specs.Codes.{located}
 

@@ -142,3 +142,71 @@ pub fn code<'a>(
     };
     Ok((code, rest))
 }
+
+#[cfg(test)]
+mod tests {
+    use super::*;
+    use class_pool::ClassFault;
+    use std::test::Fail;
+
+    /// An attribute whose code, from place 8 on, is iconst_0, goto +3, nop, nop, return. Its row, from place 17 on, goes
+    /// from 0 to 4, with the handler 4.
+    const CONTENT: [u8; 27] = [
+        0, 2, 0, 1, 0, 0, 0, 7, 0x03, 0xa7, 0, 3, 0, 0, 0xb1, 0, 1, 0, 0, 0, 4, 0, 4, 0, 0, 0, 0,
+    ];
+
+    /// The place of the fault with that byte at that place, or `None` where there is none.
+    fn fault_with(alloc: Global, place: usize, byte: u8) -> Result<Option<u32>, Fail> {
+        let mut content = CONTENT;
+        if place < content.len() {
+            content[place] = byte;
+        }
+        match code(alloc, 27, &[], 1, 27, &content) {
+            Ok((_, _)) => Ok(None),
+            Err(Stop::Fault(ClassFault { place, .. })) => Ok(Some(place)),
+            Err(Stop::Memory) => Err(Fail::from("memory")),
+        }
+    }
+
+    #[test]
+    fn one_byte_is_at_fault(rt: HostRuntime) -> Result<(), Fail> {
+        let alloc = rt.alloc();
+        assert_eq!(rt; fault_with(alloc, 0, 0)?, None);
+        // No code at all.
+        assert_eq!(rt; fault_with(alloc, 7, 0)?, Some(4));
+        // An opcode past the last, an anewarray whose index is cut off, and a getstatic of an entry that isn't there.
+        assert_eq!(rt; fault_with(alloc, 8, 0xff)?, Some(8));
+        assert_eq!(rt; fault_with(alloc, 13, 0xbd)?, Some(13));
+        assert_eq!(rt; fault_with(alloc, 12, 0xb2)?, Some(12));
+        // Jumps to another start, into an instruction, and behind the code.
+        assert_eq!(rt; fault_with(alloc, 11, 4)?, None);
+        assert_eq!(rt; fault_with(alloc, 11, 2)?, Some(9));
+        assert_eq!(rt; fault_with(alloc, 11, 6)?, Some(9));
+        // A row that ends with the code, one that ends behind it, an empty one, and a handler in an instruction.
+        assert_eq!(rt; fault_with(alloc, 20, 7)?, None);
+        assert_eq!(rt; fault_with(alloc, 20, 8)?, Some(17));
+        assert_eq!(rt; fault_with(alloc, 20, 0)?, Some(17));
+        assert_eq!(rt; fault_with(alloc, 22, 2)?, Some(17));
+        // A row that catches a class that isn't there, and an attribute that is cut off.
+        assert_eq!(rt; fault_with(alloc, 24, 9)?, Some(17));
+        assert_eq!(rt; fault_with(alloc, 26, 1)?, Some(27));
+        Ok(())
+    }
+
+    #[test]
+    fn padding_is_kept_as_zeros(rt: HostRuntime) -> Result<(), Fail> {
+        // iconst_0, a tableswitch of 0 to 0 whose two offsets lead to 20, and return
+        let content = [
+            0, 1, 0, 0, 0, 0, 0, 21, 0x03, 0xaa, 7, 9, 0, 0, 0, 19, 0, 0, 0, 0, 0, 0, 0, 0, 0, 0,
+            0, 19, 0xb1, 0, 0, 0, 0, 0xff,
+        ];
+        let kept = [
+            0x03, 0xaa, 0, 0, 0, 0, 0, 19, 0, 0, 0, 0, 0, 0, 0, 0, 0, 0, 0, 19, 0xb1,
+        ];
+        let (found, rest) = code(rt.alloc(), 34, &[], 1, 33, &content).map_err(|_| "it is code")?;
+        assert_eq!(rt; found.bytes.as_slice(), kept.as_slice());
+        assert_eq!(rt; found.rows.as_slice().len(), 0);
+        assert_eq!(rt; rest, [0xff].as_slice());
+        Ok(())
+    }
+}

@@ -1,4 +1,4 @@
-use Rattle.std.proofs.Common.{◌-◌, ◌<◌, length, arith}
+use Rattle.std.proofs.Common.{◌<◌, arith}
 use Rattle.class_read.proofs.CodeRoom.{bytes_fit}
 use Rattle.class_read.proofs.code.attribute.Goals as goal
 

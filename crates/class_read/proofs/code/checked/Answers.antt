@@ -1,4 +1,4 @@
-use Rattle.std.proofs.Common.{◌≡◌, sym, ap, ◌∙◌}
+use Rattle.std.proofs.Common.{◌∙◌}
 use Rattle.std.proofs.lemmas.Result.{err_from_is_err_and}
 use Rattle.class_pool.specs.ClassOrder as ClassOrder
 use Rattle.class_read.specs.Codes.{all_seen, spelled_of}

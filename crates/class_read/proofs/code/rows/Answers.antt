@@ -1,7 +1,6 @@
-use Rattle.std.proofs.Common.{◌+◌, ◌*◌, length, ◌++◌, [], ◌∷◌, List, arith, ap, ◌∙◌, length-append, subst}
+use Rattle.std.proofs.Common.{[], ◌∷◌, arith, length-append}
 use Rattle.std.proofs.lemmas.Result.{err_from_is_err_and}
 use Rattle.class_pool.specs.ClassOrder.{read_row}
-use Rattle.class_pool.specs.declared.classes.RowInfo.{RowInfo}
 use Rattle.class_pool.proofs.Many.{many_takes, many_stops, many_done}
 use Rattle.class_read.proofs.code.rows.Goals as goal
 

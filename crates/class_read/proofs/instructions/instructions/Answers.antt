@@ -1,9 +1,8 @@
-use Rattle.std.proofs.Common.{◌<◌, ◌≤◌, ◌-◌, length, List, [], ◌∷◌, ◌++◌, ap, subst, arith}
+use Rattle.std.proofs.Common.{◌<◌, ◌-◌, length, [], ◌∷◌, arith}
 use Rattle.std.proofs.lemmas.List.{map-append}
 use Rattle.std.proofs.lemmas.Result.{err_from_is_err_and}
-use Rattle.class_pool.specs.Code as Code
 use Rattle.class_read.specs.Codes.{seen, all_seen}
-use Rattle.class_read.proofs.InsnsRead.{ReadsOn, begins, moves_on, takes, stops, is_all}
+use Rattle.class_read.proofs.InsnsRead.{begins, moves_on, takes, stops, is_all}
 use Rattle.class_read.proofs.instructions.instructions.Goals as goal
 
 pub loop-pc-init : goal.loop-pc-init

@@ -1,7 +1,5 @@
-use Rattle.std.proofs.Common.{◌≡◌, ◌+◌, ◌<◌, length, get_or, sym, ap, ◌∙◌, arith}
-use Rattle.class_pool.specs.Code.{first_bad_jump}
-use Rattle.class_read.specs.declared.instructions.Placed.{Placed}
-use Rattle.class_read.specs.Codes.{seen, all_seen}
+use Rattle.std.proofs.Common.{get_or, sym, ap, ◌∙◌, arith}
+use Rattle.class_read.specs.Codes.{seen}
 use Rattle.class_read.specs.Starts.{jumps_pass}
 use Rattle.class_read.proofs.CodeJumps.{past, split, goes_on, bad_here}
 use Rattle.class_read.proofs.CodeStarts.{starts_within}

@@ -1,7 +1,6 @@
-use Rattle.std.proofs.Common.{◌≡◌, ℕ, ◌+◌, ◌*◌, ◌-◌, ◌≤◌, length, drop, ap, ◌∙◌, arith}
-use Rattle.std.specs.Prelude.{unsigned_abs, ◌-ℤ◌}
+use Rattle.std.proofs.Common.{ℕ, ◌+◌, drop, arith}
 use Rattle.std.proofs.lemmas.List.{length-drop}
-use Rattle.jo_insn.specs.Instructions.{decoded, offsets_between}
+use Rattle.jo_insn.specs.Instructions.{offsets_between}
 use Rattle.class_read.proofs.CodeSwitch.{offsets_end, count_is, pairs_end, four_apart, eight_apart}
 use Rattle.class_read.proofs.jumps.jumps_well.Goals as goal
 
