@@ -93,7 +93,10 @@ code_and_rows pool c content all h =
 pub code_bytes : (pool : List PoolEntry) (c : CodeInfo) (content : List ℕ) → AllBytes content → (h : SpellsCode pool c content) → AllBytes h.code
 code_bytes pool c content all h = bytes_before h.code h.rows (code_and_rows pool c content all h)
 
-content_fits : (pool : List PoolEntry) (c : CodeInfo) (content : List ℕ) → AllBytes content → SpellsCode pool c content → FitsContent c
+pub rows_bytes : (pool : List PoolEntry) (c : CodeInfo) (content : List ℕ) → AllBytes content → (h : SpellsCode pool c content) → AllBytes h.rows
+rows_bytes pool c content all h = bytes_behind h.code h.rows (code_and_rows pool c content all h)
+
+pub content_fits : (pool : List PoolEntry) (c : CodeInfo) (content : List ℕ) → AllBytes content → SpellsCode pool c content → FitsContent c
 content_fits pool c content all h =
     let (items, both, few, each) = h.rows_spelled in
     let long = kept_length pool h.code (are_bytes h.code (code_bytes pool c content all h)) h.instructions in
@@ -104,7 +107,7 @@ content_fits pool c content all h =
       max_locals = h.locals;
       bytes = omega arith;
       few_rows = few;
-      rows = each_so SpellsRow FitsRow row_fits c.rows items (bytes_behind (u2 (length c.rows)) items (subst AllBytes both (bytes_behind h.code h.rows (code_and_rows pool c content all h)))) each;
+      rows = each_so SpellsRow FitsRow row_fits c.rows items (bytes_behind (u2 (length c.rows)) items (subst AllBytes both (rows_bytes pool c content all h))) each;
     }
 
 attribute_bytes : (pool : List PoolEntry) (attribute : Attribute) (bytes : List ℕ) → AllBytes bytes → SpellsAttribute pool attribute bytes → AllBytes attribute.content
@@ -120,13 +123,16 @@ code_fits : (pool : List PoolEntry) (code : Option CodeInfo) → AllByRecursion 
 code_fits pool None all = tt
 code_fits pool (Some c) all = all.0
 
-method_fits : (pool : List PoolEntry) (m : MethodInfo) (bytes : List ℕ) → AllBytes bytes → SpellsMethod pool m bytes → FitsMethod pool m
-method_fits pool m bytes all h =
+-- the contents of its attributes are bytes
+pub contents_bytes : (pool : List PoolEntry) (m : MethodInfo) (bytes : List ℕ) → AllBytes bytes → (h : SpellsMethod pool m bytes) → AllByRecursion (λ (attribute : Attribute). AllBytes attribute.content) h.attributes
+contents_bytes pool m bytes all h =
     let (items, both, few, each) = h.attributes_spelled in
     let others = bytes_behind (u2 m.flags ++ u2 m.name ++ u2 m.desc) h.others (subst AllBytes h.spelled all) in
     let inside = bytes_behind (u2 (length h.attributes)) items (subst AllBytes both others) in
-    let contents = each_so (SpellsAttribute pool) (λ (attribute : Attribute). AllBytes attribute.content) (attribute_bytes pool) h.attributes items inside each in
-    record { flags = h.flags; name = h.name_index; desc = h.desc_index; code = code_fits pool m.code (codes_fit h.body contents) }
+    each_so (SpellsAttribute pool) (λ (attribute : Attribute). AllBytes attribute.content) (attribute_bytes pool) h.attributes items inside each
+
+method_fits : (pool : List PoolEntry) (m : MethodInfo) (bytes : List ℕ) → AllBytes bytes → SpellsMethod pool m bytes → FitsMethod pool m
+method_fits pool m bytes all h = record { flags = h.flags; name = h.name_index; desc = h.desc_index; code = code_fits pool m.code (codes_fit h.body (contents_bytes pool m bytes all h)) }
 
 -- ---- the class
 

@@ -64,6 +64,12 @@ same_table pc (LookupSwitch other pairs at) t u a b = a.3 ∙ sym b.3
 abbrev pub table_of : List PoolEntry → List ℕ → ℕ → Insn → ℕ → List ℕ
 table_of pool code pc insn next = canonical_table pool code (record { pc = pc; insn = insn; next = next })
 
+taken_within : (size pc next left : ℕ) → left ≡ size - pc → next ≤ size → next - pc ≤ left
+taken_within size pc next left is within = omega arith
+
+forward_by : (pc next size : ℕ) → pc < next → size ≡ next - pc → pc + size ≡ next
+forward_by pc next size forward is = omega arith
+
 module _ (pool : List PoolEntry) (code : List ℕ) (bytes : AreBytes code) where
   pub kept_insn : (pc next : ℕ) (insn : Insn) → decoded code pc ≡ Ok (insn, next) → IsInsn pc insn (table_of pool code pc insn next)
   kept_insn pc next (Plain op) is = others_kept code bytes pc next (Plain op) (λ _ _ e. absurd (cc)) (λ _ _ _ _ e. absurd (cc)) (λ _ _ _ e. absurd (cc)) is
@@ -88,9 +94,9 @@ module _ (pool : List PoolEntry) (code : List ℕ) (bytes : AreBytes code) where
       let left = length-drop pc code in
       let forward : pc < next = read.4 in
       let within : next ≤ length code = read.5 in
-      let taken = length-take-le (next - pc) (drop pc code) (omega arith) in
-      let same = ap length read.6 in
-      omega arith
+      let same : length (take (next - pc) (drop pc code)) ≡ length (spelled_with read.0 insn read.1) = ap length read.6 in
+      let taken : length (take (next - pc) (drop pc code)) ≡ next - pc = length-take-le (next - pc) (drop pc code) (taken_within (length code) pc next (length (drop pc code)) left within) in
+      forward_by pc next _ forward (long ∙ sym same ∙ taken)
 
   pub kept_length : {pc : ℕ} {insns : List Placed} → AreInsnsFrom pool code pc insns → pc + length (canonical_code pool code insns) ≡ length code
   kept_length (ends pc end) = omega arith

@@ -8,3 +8,5 @@ mod numbers;
 
 pub use class::write_class;
 
+#[cfg(test)]
+mod tests;
