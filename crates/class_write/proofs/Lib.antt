@@ -1,2 +1,4 @@
 mod Kept
 mod Fits
+mod Again
+mod Written

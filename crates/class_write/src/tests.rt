@@ -69,12 +69,12 @@ fn written(alloc: Global, bytes: &[u8]) -> Result<Vec<u8>, Fail> {
 #[test]
 fn class_a_is_written_back(rt: HostRuntime) -> Result<(), Fail> {
     let once = written(rt.alloc(), &CLASS_A)?;
-    let once = once.as_slice();
-    assert_eq!(rt; once.len(), 278);
-    assert_eq!(rt; &once[..180], &CLASS_A[..180]);
-    assert_eq!(rt; &once[180..], REST_OF_A.as_slice());
-    let again = written(rt.alloc(), once)?;
-    assert_eq!(rt; again.as_slice(), once);
+    let mut wanted = [0; 278];
+    wanted[..180].copy_from_slice(&CLASS_A[..180]);
+    wanted[180..].copy_from_slice(&REST_OF_A);
+    assert_eq!(rt; once.as_slice(), wanted.as_slice());
+    let again = written(rt.alloc(), once.as_slice())?;
+    assert_eq!(rt; again.as_slice(), wanted.as_slice());
     Ok(())
 }
 
