@@ -47,10 +47,10 @@ found k text (entry ∷ more) zero is = let here = is_spelled text entry is in r
 found k text (entry ∷ more) (suc n) is = elim (cases_Bool (is_text_of text entry)) [
   | inl here ↦ record { place = 0; is = rw here (omega arith); inside = omega arith; spells = spells_text text entry here }
   | inr other ↦
-    let later = found (suc k) text more n is in
-    let next : index_from (suc k) text more ≡ suc k + later.place = later.is in
-    let inside : later.place < length more = later.inside in
-    record { place = suc later.place; is = rw other (omega arith); inside = omega arith; spells = later.spells }
+      let later = found (suc k) text more n is in
+      let next : index_from (suc k) text more ≡ suc k + later.place = later.is in
+      let inside : later.place < length more = later.inside in
+      record { place = suc later.place; is = rw other (omega arith); inside = omega arith; spells = later.spells }
 ]
 
 -- the index of a text that the pool has

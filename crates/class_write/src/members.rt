@@ -52,11 +52,7 @@ fn add_field(pool: &[PoolEntry], field: &FieldInfo, out: &mut Vec<u8>) -> Result
 }
 
 /// The fields, without their count.
-pub fn add_fields(
-    pool: &[PoolEntry],
-    fields: &[FieldInfo],
-    out: &mut Vec<u8>,
-) -> Result<(), Memory>
+pub fn add_fields(pool: &[PoolEntry], fields: &[FieldInfo], out: &mut Vec<u8>) -> Result<(), Memory>
     requires { length pool.now < 65535 }
     ensures { OnOk result (out.new.items ≡ out.old.items ++ flat_map (spelled_field pool.now) fields.now) }
 {
