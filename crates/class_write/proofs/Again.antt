@@ -1,5 +1,5 @@
 -- The code that is kept has the instructions that it had, at the same places, and is kept as it is.
-use Rattle.std.proofs.Common.{◌≡◌, ◌⊎◌, ℕ, zero, suc, ◌+◌, ◌-◌, ◌*◌, ◌<◌, ◌≤◌, List, [], ◌∷◌, ◌++◌, length, take, drop, replicate, Ok, inl, inr, refl, sym, ap, subst, ◌∙◌, arith, append_assoc, length-append}
+use Rattle.std.proofs.Common.{◌≡◌, ◌⊎◌, ℕ, zero, suc, ◌+◌, ◌-◌, ◌*◌, ◌≤◌, List, [], ◌∷◌, ◌++◌, length, take, drop, replicate, Ok, inl, inr, refl, sym, ap, subst, ◌∙◌, arith, append_assoc, length-append}
 use Rattle.std.specs.Prelude.{ℤ, pos, ◌+ℤ◌}
 use Rattle.std.specs.List.{AllByRecursion}
 use Rattle.std.proofs.lemmas.List.{drop-drop, drop_at, take_at, append-nil, take-append-drop, drop-append-le, length-drop, length-replicate}
@@ -14,7 +14,7 @@ use Rattle.class_pool.specs.declared.entries.PoolEntry.{PoolEntry}
 use Rattle.class_pool.specs.declared.classes.RowInfo.{RowInfo}
 use Rattle.class_pool.specs.Code.{Placed, canonical_table, canonical_code, jumps_of, offsets_of}
 use Rattle.class_pool.specs.ClassGrammar.{AreInsnsFrom, ends, goes_on, IsStart, JumpsWell, IsRow}
-use Rattle.class_write.proofs.Kept.{table_of, kept_insn, ends_at, kept_length}
+use Rattle.class_write.proofs.Kept.{table_of, kept_insn, ends_at}
 
 -- ---- the offsets of a switch are in its table
 

@@ -1,5 +1,5 @@
 -- What is read as a class fits the fields of its spelling.
-use Rattle.std.proofs.Common.{◌≡◌, ℕ, ◌+◌, ◌^◌, ◌<◌, ◌≤◌, Bool, true, false, List, [], ◌∷◌, ◌++◌, length, Option, Some, None, refl, sym, ap, subst, ◌∙◌, arith, append_assoc}
+use Rattle.std.proofs.Common.{◌≡◌, ℕ, ◌+◌, ◌^◌, ◌<◌, ◌≤◌, Bool, false, List, [], ◌∷◌, ◌++◌, length, Option, Some, None, refl, ap, subst, arith}
 use Rattle.std.specs.Prelude.{codes}
 use Rattle.std.specs.List.{AllByRecursion}
 use Rattle.jo_insn.proofs.Numbers.{are_bytes}
@@ -10,7 +10,6 @@ use Rattle.class_pool.specs.declared.classes.FieldInfo.{FieldInfo}
 use Rattle.class_pool.specs.declared.classes.MethodInfo.{MethodInfo}
 use Rattle.class_pool.specs.declared.classes.CodeInfo.{CodeInfo}
 use Rattle.class_pool.specs.declared.classes.RowInfo.{RowInfo}
-use Rattle.class_pool.specs.Pool.{is_double}
 use Rattle.class_pool.specs.Writing.{FitsEntry, FitsPool, AreSpaced, is_second}
 use Rattle.class_pool.specs.ClassGrammar.{u2, u4, SpellsEach, SpellsEntry, SpellsEntries, no_entry, single, twofold, Attribute, SpellsAttribute, HasConstant, no_constant, not_constant, constant_value, SpellsField, SpellsRow, SpellsCode, HasCodes, no_code, not_code, code_attribute, codes_in, SpellsMethod, SpellsClassIndex, IsClass}
 use Rattle.class_write.specs.Spelling.{HasText, FitsConstant, FitsField, FitsRow, FitsContent, FitsCode, FitsMethod, FitsClass}

@@ -1,7 +1,6 @@
 -- The canonical spelling of what was read as a class is that of the same class.
-use Rattle.std.proofs.Common.{◌≡◌, ℕ, zero, suc, ◌+◌, ◌*◌, ◌^◌, ◌<◌, ◌≤◌, inl, inr, Bool, true, false, if◌then◌else◌, List, [], ◌∷◌, ◌++◌, length, Option, Some, None, refl, sym, ap, subst, ◌∙◌, arith, append_assoc, length-append}
+use Rattle.std.proofs.Common.{◌≡◌, ℕ, zero, suc, ◌+◌, ◌*◌, ◌^◌, ◌<◌, inl, inr, Bool, true, List, [], ◌∷◌, ◌++◌, length, Option, Some, None, refl, sym, ap, subst, ◌∙◌, arith, length-append}
 use Rattle.std.specs.Prelude.{codes, IsSomeAnd, slice_get}
-use Rattle.std.specs.Str.{bytes_eq}
 use Rattle.std.specs.List.{AllByRecursion, flat_map}
 use Rattle.std.proofs.lemmas.Bool.{cases_Bool}
 use Rattle.std.proofs.lemmas.Slice.Eq.{bytes_eq-Decides}
@@ -17,12 +16,12 @@ use Rattle.class_pool.specs.declared.classes.RowInfo.{RowInfo}
 use Rattle.class_pool.specs.Pool.{utf8_of, utf8_at, entry_at}
 use Rattle.class_pool.specs.Code.{canonical_code}
 use Rattle.class_pool.specs.ClassOrder.{has_flag, static_flag, fits_constant}
-use Rattle.class_pool.specs.Writing.{spelled_entry, FitsPool}
-use Rattle.class_pool.specs.ClassGrammar.{u2, u4, SpellsEach, SpellsEntry, SpellsEntries, no_entry, single, twofold, Attribute, SpellsAttribute, SpellsAttributes, AreAttributes, HasConstant, no_constant, not_constant, constant_value, SpellsField, SpellsRow, SpellsCode, HasCodes, no_code, not_code, code_attribute, codes_in, SpellsMethod, SpellsClassIndex, IsClass}
+use Rattle.class_pool.specs.Writing.{spelled_entry}
+use Rattle.class_pool.specs.ClassGrammar.{u2, u4, SpellsEach, SpellsEntry, SpellsEntries, no_entry, single, twofold, Attribute, SpellsAttribute, SpellsAttributes, HasConstant, no_constant, not_constant, constant_value, SpellsField, SpellsRow, SpellsCode, HasCodes, no_code, not_code, code_attribute, codes_in, SpellsMethod, SpellsClassIndex, IsClass}
 use Rattle.class_write.specs.Spelling.{is_text_of, index_from, text_index, counted, spelled_constant, spelled_field, spelled_row, code_size, spelled_content, spelled_code, spelled_method, spelled_class, HasText, FitsContent}
 use Rattle.class_write.proofs.Kept.{kept_length}
 use Rattle.class_write.proofs.Again.{again, all_same, code_same, jumps_again, rows_again}
-use Rattle.class_write.proofs.Fits.{AllBytes, bytes_behind, each_so, code_bytes, rows_bytes, content_fits, contents_bytes, pool_fits, PartBytes, part_bytes}
+use Rattle.class_write.proofs.Fits.{AllBytes, bytes_behind, each_so, code_bytes, rows_bytes, content_fits, contents_bytes, pool_fits, part_bytes}
 
 -- ---- the first entry that spells a text
 
