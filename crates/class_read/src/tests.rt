@@ -1,7 +1,7 @@
 //! Class A: `class A { static native int get(); static native void show(int i); static void main() { if (get() > 0) show(1); } }`
 //! as javac writes it, and what is at fault in it with some bytes changed. Places are counted by hand from the format.
 use crate::read_class;
-use class_pool::{ClassCode, ClassFault, ClassFile};
+use class_pool::{ClassCode, ClassFault, ClassFile, Cut};
 use std::alloc::Global;
 use std::test::Fail;
 
@@ -30,7 +30,7 @@ const CLASS_A: [u8; 319] = [
     0x00, 0x03, 0x00, 0x01, 0x0a, 0x00, 0x01, 0x00, 0x10, 0x00, 0x00, 0x00, 0x02, 0x00, 0x16,
 ];
 
-/// The number of a code, from 1 on.
+/// The number of a code, from 1 on; what the profile cuts has numbers of its own.
 fn number(code: ClassCode) -> u32 {
     match code {
         ClassCode::Truncated => 1,
@@ -43,7 +43,10 @@ fn number(code: ClassCode) -> u32 {
         ClassCode::CodeBounds => 8,
         ClassCode::BadOpcode => 9,
         ClassCode::Trailing => 10,
-        ClassCode::Unsupported(_) => 11,
+        ClassCode::Unsupported(Cut::Opcode(_)) => 11,
+        ClassCode::Unsupported(Cut::Constant(_)) => 21,
+        ClassCode::Unsupported(Cut::WideType) => 31,
+        ClassCode::Unsupported(Cut::Synchronized) => 41,
         ClassCode::Memory => 12,
     }
 }
@@ -118,9 +121,14 @@ fn one_byte_is_at_fault(rt: HostRuntime) {
         [283, 255, 9, 283],
         [279, 98, 11, 279],
         [280, 186, 11, 280],
-        [193, 32, 11, 192],
-        [82, 74, 11, 235],
+        [193, 32, 41, 192],
+        [82, 74, 31, 235],
         [275, 4, 5, 273],
+        [273, 0xb2, 5, 273],
+        [279, 0x12, 5, 279],
+        [15, 11, 11, 273],
+        // a NameAndType without a descriptor is found at the first entry that refers to it
+        [137, 0, 7, 10],
     ];
     for row in rows {
         let place = row[0];
@@ -136,18 +144,34 @@ fn one_byte_is_at_fault(rt: HostRuntime) {
 fn the_earlier_of_two_faults_is_told(rt: HostRuntime) {
     // two places, each with its new byte; the code and the place of the fault
     let rows = [
-        // the version before a tag
+        // the magic number before the version, and this before a tag
+        [0, 0xcb, 7, 53, 2, 0],
         [7, 44, 10, 2, 3, 6],
         // a tag before a reference of an earlier entry
         [25, 17, 14, 0, 4, 25],
+        // a text before a later tag, a reference before this class, this one before its superclass, and that before methods
+        [34, 0, 40, 2, 6, 31],
+        [27, 0, 183, 6, 5, 25],
+        [183, 6, 185, 0, 5, 182],
+        [185, 0, 195, 4, 5, 184],
+        // one method before the next
+        [197, 6, 236, 0x28, 7, 196],
         // both indices of a method before its name's bytes
         [195, 7, 197, 4, 5, 196],
         // what stands in a method's attributes before its own fault
         [193, 0x20, 213, 0, 8, 210],
         // the length of Code before its instructions
         [205, 0x1e, 214, 0xca, 8, 202],
+        // the name of an attribute before its length
+        [201, 4, 205, 0x1e, 5, 200],
+        // an instruction before the next, and a Class as a constant
+        [275, 4, 283, 0xff, 5, 273],
+        [276, 0x13, 278, 4, 21, 276],
         // all instructions before a jump
         [278, 5, 283, 0xff, 9, 283],
+        // a wide type before synchronized, and this before a body that isn't there
+        [82, 0x4a, 236, 0x28, 31, 235],
+        [235, 0, 236, 0x28, 41, 235],
         // a jump before a method's own fault
         [251, 1, 278, 5, 8, 276],
     ];
