@@ -1,5 +1,5 @@
 -- What is read as a class fits the fields of its spelling.
-use Rattle.std.proofs.Common.{◌≡◌, ℕ, ◌+◌, ◌^◌, ◌<◌, ◌≤◌, Bool, false, List, [], ◌∷◌, ◌++◌, length, Option, Some, None, refl, ap, subst, arith}
+use Rattle.std.proofs.Common.{◌≡◌, ℕ, ◌+◌, ◌^◌, ◌<◌, ◌≤◌, Bool, false, List, [], ◌∷◌, length, Option, Some, None, refl, ap, arith}
 use Rattle.std.specs.Prelude.{codes}
 use Rattle.std.specs.List.{AllByRecursion}
 use Rattle.class_pool.specs.declared.entries.PoolEntry.{PoolEntry}
@@ -10,7 +10,7 @@ use Rattle.class_pool.specs.declared.classes.MethodInfo.{MethodInfo}
 use Rattle.class_pool.specs.declared.classes.CodeInfo.{CodeInfo}
 use Rattle.class_pool.specs.declared.classes.RowInfo.{RowInfo}
 use Rattle.class_pool.specs.Writing.{FitsEntry, FitsPool, AreSpaced, is_second}
-use Rattle.class_pool.specs.ClassGrammar.{u2, u4, SpellsEach, SpellsEntry, SpellsEntries, no_entry, single, twofold, Attribute, SpellsAttribute, HasConstant, no_constant, not_constant, constant_value, SpellsField, SpellsRow, SpellsCode, HasCodes, no_code, not_code, code_attribute, codes_in, SpellsMethod, SpellsClassIndex, IsClass}
+use Rattle.class_pool.specs.ClassGrammar.{SpellsEach, SpellsEntry, SpellsEntries, no_entry, single, twofold, Attribute, HasConstant, no_constant, not_constant, constant_value, SpellsField, SpellsRow, SpellsCode, HasCodes, no_code, not_code, code_attribute, codes_in, SpellsMethod, SpellsClassIndex, IsClass}
 use Rattle.class_write.specs.Spelling.{HasText, FitsConstant, FitsField, FitsRow, FitsContent, FitsCode, FitsMethod, FitsClass}
 use Rattle.class_write.proofs.Sizes.{kept_length}
 

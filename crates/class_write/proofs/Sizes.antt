@@ -1,5 +1,5 @@
 -- An instruction is kept as long as it was, whatever numbers the code has.
-use Rattle.std.proofs.Common.{◌≡◌, ℕ, suc, ◌+◌, ◌-◌, ◌*◌, ◌^◌, ◌<◌, ◌≤◌, inl, inr, Bool, true, false, ◌&&◌, ◌==◌, if◌then◌else◌, List, [], ◌∷◌, ◌++◌, length, take, drop, replicate, Option, Some, None, option_map, Result, Ok, Err, refl, sym, ap, subst, ◌∙◌, arith, length-append}
+use Rattle.std.proofs.Common.{◌≡◌, ℕ, ◌+◌, ◌-◌, ◌*◌, ◌^◌, ◌≤◌, inl, inr, Bool, true, false, ◌&&◌, ◌==◌, if◌then◌else◌, List, [], ◌∷◌, ◌++◌, length, take, drop, replicate, Option, Some, None, option_map, Result, Ok, Err, refl, sym, ap, subst, ◌∙◌, arith, length-append}
 use Rattle.std.specs.Prelude.{ℤ, nat_lt, nat_le, int_lt}
 use Rattle.std.specs.Result.{IfOk}
 use Rattle.std.proofs.lemmas.Bool.{cases_Bool, and_parts, eqb-true}
@@ -8,11 +8,9 @@ use Rattle.byteorder.specs.Endian.{big_bytes}
 use Rattle.jo_insn.specs.declared.opcodes.Operands.{Operands}
 use Rattle.jo_insn.specs.declared.opcodes.Operands.TheVariants.{NoOperand, SignedByte, SignedShort, LocalByte, LocalAndStep, WidePrefix, PoolByte, PoolShort, PoolShortAndTwo, ArrayKind, OffsetShort, OffsetInt, OffsetTable, KeyTable}
 use Rattle.jo_insn.specs.declared.instructions.Insn.{Insn}
-use Rattle.jo_insn.specs.declared.instructions.Insn.TheVariants.{Plain, Local, Iinc, Push, Pooled, Array, Jump, TableSwitch, LookupSwitch}
 use Rattle.jo_insn.specs.declared.instructions.InsnFault.{InsnFault}
-use Rattle.jo_insn.specs.declared.instructions.InsnFault.TheVariants.{Cut, Outside, Malformed, Unknown}
 use Rattle.jo_insn.specs.Opcodes.{Opcode, opcodes, first_row, row_of, operands_of}
-use Rattle.jo_insn.specs.Instructions.{◌>>=◌, number_in, signed_in, decoded, decoded_from, with_operands, widened, behind_wide, array_of, is_array_kind, is_wide_kind, with_offsets, table_switch, with_pairs, lookup_switch, spelled, padding_at, offsets_at, offsets_between, pairs_at, keys_of, rises, s4}
+use Rattle.jo_insn.specs.Instructions.{◌>>=◌, number_in, signed_in, decoded, decoded_from, with_operands, widened, behind_wide, array_of, is_array_kind, is_wide_kind, with_offsets, with_pairs, spelled, padding_at, offsets_at, offsets_between, pairs_at, keys_of, rises, s4}
 use Rattle.jo_insn.proofs.DecodedMoves.{decoded-moves}
 use Rattle.class_pool.specs.declared.entries.PoolEntry.{PoolEntry}
 use Rattle.class_pool.specs.Code.{Placed, canonical_table, canonical_code}
