@@ -14,7 +14,8 @@ use Rattle.class_pool.specs.declared.entries.PoolEntry.{PoolEntry}
 use Rattle.class_pool.specs.declared.classes.RowInfo.{RowInfo}
 use Rattle.class_pool.specs.Code.{Placed, canonical_table, canonical_code, jumps_of, offsets_of}
 use Rattle.class_pool.specs.ClassGrammar.{AreInsnsFrom, ends, goes_on, IsStart, JumpsWell, IsRow}
-use Rattle.class_write.proofs.Kept.{table_of, kept_insn, ends_at}
+use Rattle.class_write.proofs.Sizes.{table_of, ends_at}
+use Rattle.class_write.proofs.Kept.{kept_insn}
 
 -- ---- the offsets of a switch are in its table
 
@@ -91,7 +92,7 @@ module _ (pool : List PoolEntry) (code : List ℕ) (bytes : AreBytes code) where
         let long = head_length padding (s4 other) (s4 low) (s4 high) in
         let padded : length padding ≡ padding_at pc = length-replicate (padding_at pc) 0 in
         let place : at ≡ pc + 1 + padding_at pc + 12 = can.4 in
-        let both = switch_same head (take (next - at) (drop at code)) (offsets_between low high) 4 0 at refl same (omega arith) (ends_at pool code bytes pc next (TableSwitch other low high at) is) (omega arith) can.5 in
+        let both = switch_same head (take (next - at) (drop at code)) (offsets_between low high) 4 0 at refl same (omega arith) (ends_at pool code pc next (TableSwitch other low high at) is) (omega arith) can.5 in
         (both.0, ap (λ (more : List ℤ). other ∷ more) both.1)
     same_insn (LookupSwitch other pairs at) is same =
         let can = kept_insn pool code bytes pc next (LookupSwitch other pairs at) is in
@@ -100,7 +101,7 @@ module _ (pool : List PoolEntry) (code : List ℕ) (bytes : AreBytes code) where
         let long = pairs_head_length padding (s4 other) (big_bytes 4 pairs) in
         let padded : length padding ≡ padding_at pc = length-replicate (padding_at pc) 0 in
         let place : at ≡ pc + 1 + padding_at pc + 8 = can.2 in
-        let both = switch_same head (take (next - at) (drop at code)) pairs 8 4 at refl same (omega arith) (ends_at pool code bytes pc next (LookupSwitch other pairs at) is) (omega arith) can.3 in
+        let both = switch_same head (take (next - at) (drop at code)) pairs 8 4 at refl same (omega arith) (ends_at pool code pc next (LookupSwitch other pairs at) is) (omega arith) can.3 in
         let jumps : offsets_of pairs 8 (drop (at + 4) whole) ≡ offsets_of pairs 8 (drop (at + 4) code) =
         ap (offsets_of pairs 8) (sym (drop-drop 4 at whole)) ∙ both.1 ∙ ap (offsets_of pairs 8) (drop-drop 4 at code) in
         (both.0, ap (λ (more : List ℤ). other ∷ more) jumps)
@@ -114,7 +115,7 @@ module _ (pool : List PoolEntry) (code : List ℕ) (bytes : AreBytes code) where
         → (whole ≡ front ++ spelled pc insn (table_of pool code pc insn next) ++ canonical_code pool code more) × (length (front ++ spelled pc insn (table_of pool code pc insn next)) ≡ next)
     step_on front pc next insn more at_pc is same =
         let text : List ℕ = spelled pc insn (table_of pool code pc insn next) in
-        (same ∙ sym (append_assoc front text (canonical_code pool code more)), length-append front text ∙ ap (λ (n : ℕ). n + length text) at_pc ∙ ends_at pool code bytes pc next insn is)
+        (same ∙ sym (append_assoc front text (canonical_code pool code more)), length-append front text ∙ ap (λ (n : ℕ). n + length text) at_pc ∙ ends_at pool code pc next insn is)
 
     pub again : (front : List ℕ) {pc : ℕ} {insns : List Placed} → AreInsnsFrom pool code pc insns → length front ≡ pc → whole ≡ front ++ canonical_code pool code insns → AreInsnsFrom pool whole pc insns
     again front (ends pc end) at_pc same = ends pc (sym at_pc ∙ ap length (sym (same ∙ append-nil front)))
@@ -122,7 +123,7 @@ module _ (pool : List PoolEntry) (code : List ℕ) (bytes : AreBytes code) where
         let table : List ℕ = table_of pool code pc insn next in
         let on = step_on front pc next insn more at_pc is same in
         goes_on pc next insn more
-        (decoded_again front (canonical_code pool code more) table whole pc next insn at_pc (ends_at pool code bytes pc next insn is) (kept_insn pool code bytes pc next insn is) on.0) sound
+        (decoded_again front (canonical_code pool code more) table whole pc next insn at_pc (ends_at pool code pc next insn is) (kept_insn pool code bytes pc next insn is) on.0) sound
         (again (front ++ spelled pc insn table) others on.1 on.0)
 
     pub all_same : (front : List ℕ) {pc : ℕ} {insns : List Placed} → AreInsnsFrom pool code pc insns → length front ≡ pc → whole ≡ front ++ canonical_code pool code insns → AllByRecursion (IsSame whole) insns

@@ -1,4 +1,6 @@
+mod Sizes
 mod Kept
 mod Fits
+mod Bytes
 mod Again
 mod Written

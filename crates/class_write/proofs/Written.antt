@@ -19,9 +19,10 @@ use Rattle.class_pool.specs.ClassOrder.{has_flag, static_flag, fits_constant}
 use Rattle.class_pool.specs.Writing.{spelled_entry}
 use Rattle.class_pool.specs.ClassGrammar.{u2, u4, SpellsEach, SpellsEntry, SpellsEntries, no_entry, single, twofold, Attribute, SpellsAttribute, SpellsAttributes, HasConstant, no_constant, not_constant, constant_value, SpellsField, SpellsRow, SpellsCode, HasCodes, no_code, not_code, code_attribute, codes_in, SpellsMethod, SpellsClassIndex, IsClass}
 use Rattle.class_write.specs.Spelling.{is_text_of, index_from, text_index, counted, spelled_constant, spelled_field, spelled_row, code_size, spelled_content, spelled_code, spelled_method, spelled_class, HasText, FitsContent}
-use Rattle.class_write.proofs.Kept.{kept_length}
+use Rattle.class_write.proofs.Sizes.{kept_length}
 use Rattle.class_write.proofs.Again.{again, all_same, code_same, jumps_again, rows_again}
-use Rattle.class_write.proofs.Fits.{AllBytes, bytes_behind, each_so, code_bytes, rows_bytes, content_fits, contents_bytes, pool_fits, part_bytes}
+use Rattle.class_write.proofs.Fits.{each_so, pool_fits, content_fits}
+use Rattle.class_write.proofs.Bytes.{AllBytes, bytes_behind, InBytes, each_in_bytes, code_bytes, contents_bytes, methods_bytes}
 
 -- ---- the first entry that spells a text
 
@@ -130,8 +131,8 @@ constant_again pool static desc (Some constant) few (named, is, fits, right) =
     let attribute : Attribute = record { name = text_index pool name; content = u2 constant } in
     (attribute ∷ [], one_attribute pool attribute _ (attribute_named pool name (u2 constant) few named (omega arith)), constant_value attribute [] constant is index.spells (refl, fits, right) no_constant)
 
-field_again : (pool : List PoolEntry) → length pool < 65535 → (f : FieldInfo) (bytes : List ℕ) → AllBytes bytes → SpellsField pool f bytes → SpellsField pool f (spelled_field pool f)
-field_again pool few f bytes all h =
+field_again : (pool : List PoolEntry) → length pool < 65535 → (f : FieldInfo) (bytes : List ℕ) → SpellsField pool f bytes → SpellsField pool f (spelled_field pool f)
+field_again pool few f bytes h =
     let (attributes, spelled, has) = constant_again pool (has_flag static_flag f.flags) f.desc f.constant few (constant_facts h.constant) in
     record {
       attributes = attributes;
@@ -148,8 +149,8 @@ field_again pool few f bytes all h =
 
 -- ---- methods
 
-row_again : (row : RowInfo) (bytes : List ℕ) → AllBytes bytes → SpellsRow row bytes → SpellsRow row (spelled_row row)
-row_again row bytes all (spelled, start, end, handler, catch_type) = (refl, start, end, handler, catch_type)
+row_again : (row : RowInfo) (bytes : List ℕ) → SpellsRow row bytes → SpellsRow row (spelled_row row)
+row_again row bytes (spelled, start, end, handler, catch_type) = (refl, start, end, handler, catch_type)
 
 rows_length : (rows : List RowInfo) → length (flat_map spelled_row rows) ≡ 8 * length rows
 rows_length [] = refl
@@ -168,9 +169,9 @@ content_again pool c content all h =
     let code : List ℕ = h.code in
     let bytes = are_bytes code (code_bytes pool c content all h) in
     let (items, both, few, each) = h.rows_spelled in
-    let rows = each_so SpellsRow (λ (row : RowInfo). SpellsRow row (spelled_row row)) row_again c.rows items (bytes_behind (u2 (length c.rows)) items (subst AllBytes both (rows_bytes pool c content all h))) each in
+    let rows = each_so SpellsRow (λ (row : RowInfo). SpellsRow row (spelled_row row)) row_again c.rows items each in
     let kept : c.bytes ≡ [] ++ canonical_code pool code h.insns = h.kept in
-    let long = kept_length pool code bytes h.instructions in
+    let long = kept_length pool code h.instructions in
     let kept_as : length c.bytes ≡ length (canonical_code pool code h.insns) = ap length h.kept in
     let long_as : length code ≡ length c.bytes = omega arith in
     let same = all_same pool code bytes c.bytes [] h.instructions refl kept in
@@ -209,7 +210,7 @@ codes_facts no_code all = tt
 codes_facts (not_code attribute more found other has) all = codes_facts has all.1
 codes_facts {pool = pool} (code_attribute attribute more c found named spelled has) all =
     let h = content_again pool c attribute.content all.0 spelled in
-    (((attribute.name, named), content_short c (content_fits pool c attribute.content all.0 spelled), h), codes_facts has all.1)
+    (((attribute.name, named), content_short c (content_fits pool c attribute.content spelled), h), codes_facts has all.1)
 
 abbrev CodeAgain : List PoolEntry → Option CodeInfo → Type 0
 CodeAgain pool code = (attributes : List Attribute) × SpellsAttributes pool attributes (spelled_code pool code) × HasCodes pool attributes (codes_in code)
@@ -226,8 +227,8 @@ code_again pool (Some c) few facts =
     let P : ℕ → Type 0 = λ size. SpellsAttributes pool (attribute ∷ []) (u2 1 ++ (u2 (text_index pool name) ++ u4 size ++ content)) in
     (attribute ∷ [], subst P (content_length c) spelled, code_attribute attribute [] c [] index.spells h no_code)
 
-method_again : (pool : List PoolEntry) → length pool < 65535 → (m : MethodInfo) (bytes : List ℕ) → AllBytes bytes → SpellsMethod pool m bytes → SpellsMethod pool m (spelled_method pool m)
-method_again pool few m bytes all h =
+method_again : (pool : List PoolEntry) → length pool < 65535 → (m : MethodInfo) (bytes : List ℕ) → InBytes (SpellsMethod pool) m bytes → SpellsMethod pool m (spelled_method pool m)
+method_again pool few m bytes (all, h) =
     let facts = codes_facts h.body (contents_bytes pool m bytes all h) in
     let (attributes, spelled, has) = code_again pool m.code few facts in
     record {
@@ -250,15 +251,15 @@ method_again pool few m bytes all h =
 
 pub written_is_read : (bytes : List ℕ) (c : ClassFile) → AllBytes bytes → IsClass bytes c → IsClass (spelled_class c) c
 written_is_read bytes c all h =
-    let parts = part_bytes bytes c all h in
     let few = (pool_fits bytes c h).few in
     let pool : List PoolEntry = c.pool in
     let (interfaces, at_interfaces, few_interfaces, each_interface) = h.interfaces in
     let (fields, at_fields, few_fields, each_field) = h.fields in
     let (methods, at_methods, few_methods, each_method) = h.methods in
-    let interfaces_so = each_so (SpellsClassIndex pool) (λ (index : ℕ). SpellsClassIndex pool index (u2 index)) (λ index bytes all spells. (refl, spells.1)) c.interfaces interfaces (bytes_behind (u2 (length c.interfaces)) interfaces (subst AllBytes at_interfaces parts.interfaces)) each_interface in
-    let fields_so = each_so (SpellsField pool) (λ (f : FieldInfo). SpellsField pool f (spelled_field pool f)) (field_again pool few) c.fields fields (bytes_behind (u2 (length c.fields)) fields (subst AllBytes at_fields parts.fields)) each_field in
-    let methods_so = each_so (SpellsMethod pool) (λ (m : MethodInfo). SpellsMethod pool m (spelled_method pool m)) (method_again pool few) c.methods methods (bytes_behind (u2 (length c.methods)) methods (subst AllBytes at_methods parts.methods)) each_method in
+    let inside = bytes_behind (u2 (length c.methods)) methods (subst AllBytes at_methods (methods_bytes bytes c all h)) in
+    let interfaces_so = each_so (SpellsClassIndex pool) (λ (index : ℕ). SpellsClassIndex pool index (u2 index)) (λ index bytes spells. (refl, spells.1)) c.interfaces interfaces each_interface in
+    let fields_so = each_so (SpellsField pool) (λ (f : FieldInfo). SpellsField pool f (spelled_field pool f)) (field_again pool few) c.fields fields each_field in
+    let methods_so = each_so (InBytes (SpellsMethod pool)) (λ (m : MethodInfo). SpellsMethod pool m (spelled_method pool m)) (method_again pool few) c.methods methods (each_in_bytes (SpellsMethod pool) c.methods methods inside each_method) in
     record {
       pool_bytes = flat_map spelled_entry pool;
       interface_bytes = counted u2 c.interfaces;

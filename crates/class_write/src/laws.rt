@@ -8,7 +8,7 @@ ghost use Rattle.class_write.specs.Spelling.{spelled_class, FitsClass};
 
 /// What is read as a class can be written.
 pub fn what_is_read_fits()
-    ensures { (bytes : List ℕ) (c : ClassFile) → AllByRecursion (λ byte. byte < 2 ^ 8) bytes → IsClass bytes c → FitsClass c }
+    ensures { (bytes : List ℕ) (c : ClassFile) → IsClass bytes c → FitsClass c }
 {}
 
 /// What is written of a class that was read is that class, by the grammar and as it is read.
