@@ -1,5 +1,7 @@
 pub mod Many
 mod PoolEntries
+mod Parameters
+mod KnownFacts
 pub mod PoolFits
 pub mod PoolStops
 pub mod GrammarInsns

@@ -6,3 +6,4 @@ pub mod ClassGrammar
 pub mod Outcomes
 pub mod Stops
 pub mod Writing
+pub mod Known

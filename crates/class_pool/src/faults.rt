@@ -43,7 +43,7 @@ pub enum ClassCode {
 /// The first fault of a class file in the order of reading, and the place of the item at fault: the offset of its first
 /// byte, or the file's length for an item whose bytes aren't all there. Where memory ran out the code is `Memory` and the
 /// place 0.
-#[derive(Clone, Copy)]
+#[derive(Clone, Copy, Debug, PartialEq, Eq)]
 pub struct ClassFault {
     pub code: ClassCode,
     pub place: u32,

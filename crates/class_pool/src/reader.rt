@@ -9,6 +9,7 @@ use crate::items::{
     behind, bytes_of, fault_at, number_of_eight, number_of_four, number_of_one, number_of_two,
     place_of, two_numbers,
 };
+use crate::known::KnownPool;
 use crate::references::reference_fault;
 use jo_ids::List;
 use jo_text::{Name, is_mutf8};
@@ -156,15 +157,16 @@ fn entries(alloc: Global, size: u32, count: u16, rest: &[u8]) -> Result<(Pool, &
 
 /// The pool that begins the rest, with its count, and what follows. `size` is the length of the whole file.
 #[tactic(auto, unfolding(crate::specs::Pool::read_pool_from))]
-pub fn read_pool_from(alloc: Global, size: u32, rest: &[u8]) -> Result<(Pool, &[u8]), Stop>
+pub fn read_pool_from(alloc: Global, size: u32, rest: &[u8]) -> Result<(KnownPool, &[u8]), Stop>
     ensures { Gives (λ x. (x.0, x.1.now)) result (pool_from size rest.now) }
 {
     let (count, behind) = number_of_two(size, rest)?;
     if count == 0 {
         return Err(fault_at(ClassCode::PoolIndex, place_of(size, rest)));
     }
-    let (pool, end) = entries(alloc, size, count - 1, behind)?;
-    match reference_fault(size, pool.as_slice(), behind) {
+    let (entries, end) = entries(alloc, size, count - 1, behind)?;
+    let pool = KnownPool::of(alloc, entries)?;
+    match reference_fault(size, &pool, behind) {
         Some(fault) => Err(Stop::Fault(fault)),
         None => Ok((pool, end)),
     }
@@ -179,5 +181,5 @@ pub fn read_pool(alloc: Global, bytes: &[u8]) -> Result<(Pool, u32), ClassFault>
 {
     let size = bytes.len() as u32;
     let (pool, rest) = read_pool_from(alloc, size, behind(bytes, 8))?;
-    Ok((pool, place_of(size, rest)))
+    Ok((pool.into_pool(), place_of(size, rest)))
 }

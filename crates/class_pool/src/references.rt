@@ -1,13 +1,13 @@
 //! Checks what the entries of a pool refer to.
 ghost use Rattle.std.specs.Prelude.{◌≡◌, ◌∷◌, [], ◌||◌};
-ghost use Rattle.jo_text.specs.Tests.{is_class_or_array as passes_class, is_member_name as passes_member, is_field_desc as passes_field, is_method_desc as passes_method};
-ghost use Rattle.class_pool.specs.Pool.{entry_size as size_of_entry, questions, first_failing, reference_fault as first_fault, is_text, is_text_that, is_class as is_class_entry, is_name_and_type as is_type_entry, entry_at as entry_with, desc_at as desc_with, utf8_at as utf8_with};
+ghost use Rattle.jo_text.specs.Tests.{is_field_desc as passes_field, is_method_desc as passes_method};
+ghost use Rattle.class_pool.specs.Pool.{entry_size as size_of_entry, questions, first_failing, reference_fault as first_fault, is_text, is_text_that, is_class as is_class_entry, is_name_and_type as is_type_entry, entry_at as entry_with, utf8_at as utf8_with};
 ghost use Rattle.class_pool.specs.declared.faults.ClassCode.TheVariants.{PoolIndex, BadDescriptor};
 
-use crate::entries::{PoolEntry, desc_at, entry_at, utf8_at};
+use crate::entries::{PoolEntry, entry_at, utf8_at};
 use crate::faults::{ClassCode, ClassFault};
 use crate::items::{behind, place_of};
-use jo_text::{is_class_or_array, is_field_desc, is_member_name, is_method_desc};
+use crate::known::KnownPool;
 
 /// The code where not all indices that an entry names fit, or else where not all texts do.
 fn fault_unless(there: bool, fits: bool) -> Option<ClassCode>
@@ -22,92 +22,57 @@ fn fault_unless(there: bool, fits: bool) -> Option<ClassCode>
     }
 }
 
-fn names_text(pool: &[PoolEntry], index: u16) -> bool
+fn names_text(pool: &KnownPool, index: u16) -> bool
     ensures { result ≡ is_text (utf8_with pool.now index) }
 {
-    utf8_at(pool, index).is_some()
+    utf8_at(pool.entries(), index).is_some()
 }
 
-fn names_class_or_array(pool: &[PoolEntry], index: u16) -> bool
-    ensures { result ≡ is_text_that passes_class (utf8_with pool.now index) }
-{
-    match utf8_at(pool, index) {
-        Some(text) => is_class_or_array(text),
-        None => false,
-    }
-}
-
-fn names_member(pool: &[PoolEntry], index: u16) -> bool
-    ensures { result ≡ is_text_that passes_member (utf8_with pool.now index) }
-{
-    match utf8_at(pool, index) {
-        Some(text) => is_member_name(text),
-        None => false,
-    }
-}
-
-fn names_desc(pool: &[PoolEntry], index: u16) -> bool
+fn names_desc(pool: &KnownPool, index: u16) -> bool
     ensures { result ≡ is_text_that (λ text. passes_field text || passes_method text) (utf8_with pool.now index) }
 {
-    match utf8_at(pool, index) {
-        Some(text) => is_field_desc(text) || is_method_desc(text),
-        None => false,
-    }
+    let facts = pool.facts_at(index);
+    facts.is_field_desc || facts.is_method_desc
 }
 
-fn has_field_desc(pool: &[PoolEntry], index: u16) -> bool
-    ensures { result ≡ is_text_that passes_field (desc_with pool.now index) }
-{
-    match desc_at(pool, index) {
-        Some(text) => is_field_desc(text),
-        None => false,
-    }
-}
-
-fn has_method_desc(pool: &[PoolEntry], index: u16) -> bool
-    ensures { result ≡ is_text_that passes_method (desc_with pool.now index) }
-{
-    match desc_at(pool, index) {
-        Some(text) => is_method_desc(text),
-        None => false,
-    }
-}
-
-fn is_class(pool: &[PoolEntry], index: u16) -> bool
+fn is_class(pool: &KnownPool, index: u16) -> bool
     ensures { result ≡ is_class_entry (entry_with pool.now index) }
 {
-    matches!(entry_at(pool, index), Some(PoolEntry::Class(_)))
+    matches!(entry_at(pool.entries(), index), Some(PoolEntry::Class(_)))
 }
 
-fn is_name_and_type(pool: &[PoolEntry], index: u16) -> bool
+fn is_name_and_type(pool: &KnownPool, index: u16) -> bool
     ensures { result ≡ is_type_entry (entry_with pool.now index) }
 {
-    matches!(entry_at(pool, index), Some(PoolEntry::NameAndType(_, _)))
+    matches!(
+        entry_at(pool.entries(), index),
+        Some(PoolEntry::NameAndType(_, _))
+    )
 }
 
 /// What is at fault in what an entry refers to.
-fn entry_fault(pool: &[PoolEntry], entry: &PoolEntry) -> Option<ClassCode>
+fn entry_fault(pool: &KnownPool, entry: &PoolEntry) -> Option<ClassCode>
     ensures { result ≡ first_failing (questions pool.now entry.now) }
 {
     match entry {
         PoolEntry::Class(name) => fault_unless(
             names_text(pool, *name),
-            names_class_or_array(pool, *name),
+            pool.facts_at(*name).is_class_or_array,
         ),
         PoolEntry::Text(text) => fault_unless(names_text(pool, *text), true),
         PoolEntry::FieldRef(class, kind) => fault_unless(
             is_class(pool, *class) && is_name_and_type(pool, *kind),
-            has_field_desc(pool, *kind),
+            pool.desc_facts_at(*kind).is_field_desc,
         ),
         PoolEntry::MethodRef(class, kind) | PoolEntry::InterfaceMethodRef(class, kind) => {
             fault_unless(
                 is_class(pool, *class) && is_name_and_type(pool, *kind),
-                has_method_desc(pool, *kind),
+                pool.desc_facts_at(*kind).is_method_desc,
             )
         }
         PoolEntry::NameAndType(name, desc) => fault_unless(
             names_text(pool, *name) && names_text(pool, *desc),
-            names_member(pool, *name) && names_desc(pool, *desc),
+            pool.facts_at(*name).is_member_name && names_desc(pool, *desc),
         ),
         _ => None,
     }
@@ -135,11 +100,11 @@ fn entry_size(entry: &PoolEntry) -> usize
 
 /// The first entry that refers to something wrong. The rest of the file begins with the pool's entries.
 #[tactic(auto, unfolding(crate::specs::Pool::reference_fault))]
-pub fn reference_fault(size: u32, pool: &[PoolEntry], rest: &[u8]) -> Option<ClassFault>
+pub fn reference_fault(size: u32, pool: &KnownPool, rest: &[u8]) -> Option<ClassFault>
     ensures { result ≡ first_fault size pool.now rest.now pool.now }
 {
     let mut rest = rest;
-    for entry in pool {
+    for entry in pool.entries() {
         if let Some(code) = entry_fault(pool, entry) {
             return Some(ClassFault {
                 code,

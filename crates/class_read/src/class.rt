@@ -11,7 +11,7 @@ use crate::fields::fields;
 use crate::methods::methods;
 use crate::parts::{class_index, skip_attributes};
 use class_pool::items::{fault_at, number_of_four, number_of_two, place_of};
-use class_pool::{ClassCode, ClassFault, ClassFile, Pool, PoolEntry, Stop, read_pool_from};
+use class_pool::{ClassCode, ClassFault, ClassFile, KnownPool, Stop, read_pool_from};
 use jo_ids::List;
 use std::alloc::Global;
 
@@ -38,7 +38,7 @@ fn version(size: u32, rest: &[u8]) -> Result<((u16, u16), &[u8]), Stop>
 fn interfaces<'a>(
     alloc: Global,
     size: u32,
-    pool: &[PoolEntry],
+    pool: &KnownPool,
     count: u16,
     rest: &'a [u8],
 ) -> Result<(List<u16>, &'a [u8]), Stop>
@@ -60,30 +60,29 @@ fn class_behind(
     alloc: Global,
     size: u32,
     version: (u16, u16),
-    pool: Pool,
+    pool: KnownPool,
     rest: &[u8],
 ) -> Result<ClassFile, Stop>
     ensures { Gives (λ class. class) result (read_behind size version pool rest.now) }
 {
     let (minor, major) = version;
-    let entries = pool.as_slice();
     let (flags, rest) = number_of_two(size, rest)?;
-    let (this_class, rest) = class_index(size, entries, rest)?;
-    let (super_class, rest) = class_index(size, entries, rest)?;
+    let (this_class, rest) = class_index(size, &pool, rest)?;
+    let (super_class, rest) = class_index(size, &pool, rest)?;
     let (count, rest) = number_of_two(size, rest)?;
-    let (interfaces, rest) = interfaces(alloc, size, entries, count, rest)?;
+    let (interfaces, rest) = interfaces(alloc, size, &pool, count, rest)?;
     let (count, rest) = number_of_two(size, rest)?;
-    let (fields, rest) = fields(alloc, size, entries, count, rest)?;
+    let (fields, rest) = fields(alloc, size, &pool, count, rest)?;
     let (count, rest) = number_of_two(size, rest)?;
-    let (methods, rest) = methods(alloc, size, entries, count, rest)?;
-    let end = skip_attributes(size, entries, rest)?;
+    let (methods, rest) = methods(alloc, size, &pool, count, rest)?;
+    let end = skip_attributes(size, &pool, rest)?;
     if !end.is_empty() {
         return Err(fault_at(ClassCode::Trailing, place_of(size, end)));
     }
     Ok(ClassFile {
         minor,
         major,
-        pool,
+        pool: pool.into_pool(),
         flags,
         this_class,
         super_class,

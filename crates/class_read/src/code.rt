@@ -11,7 +11,7 @@ use crate::jumps::{check_jumps, check_rows, starts};
 use crate::kept::kept_code;
 use crate::parts::skip_attributes;
 use class_pool::items::{bytes_of, fault_at, number_of_four, number_of_two, place_of, two_numbers};
-use class_pool::{ClassCode, CodeInfo, PoolEntry, RowInfo, Stop};
+use class_pool::{ClassCode, CodeInfo, KnownPool, RowInfo, Stop};
 use jo_ids::List;
 use jo_text::Name;
 use std::alloc::Global;
@@ -68,7 +68,7 @@ fn rows<'a>(
 fn attribute<'a>(
     alloc: Global,
     size: u32,
-    pool: &[PoolEntry],
+    pool: &KnownPool,
     place: u32,
     count: u32,
     rest: &'a [u8],
@@ -100,7 +100,7 @@ fn attribute<'a>(
 }
 
 /// The code that is kept, where its instructions, jumps and rows pass.
-fn checked(alloc: Global, pool: &[PoolEntry], spelled: &Spelled) -> Result<Name, Stop>
+fn checked(alloc: Global, pool: &KnownPool, spelled: &Spelled) -> Result<Name, Stop>
     requires { HasRoom spelled.now }
     ensures { Gives (λ x. x) result (code_checked pool.now (spelled_of spelled.now) (insns_of pool.now spelled.now.code.now)) }
 {
@@ -125,7 +125,7 @@ fn checked(alloc: Global, pool: &[PoolEntry], spelled: &Spelled) -> Result<Name,
 pub fn code<'a>(
     alloc: Global,
     size: u32,
-    pool: &[PoolEntry],
+    pool: &KnownPool,
     place: u32,
     count: u32,
     rest: &'a [u8],
@@ -155,17 +155,33 @@ mod tests {
         0, 2, 0, 1, 0, 0, 0, 7, 0x03, 0xa7, 0, 3, 0, 0, 0xb1, 0, 1, 0, 0, 0, 4, 0, 4, 0, 0, 0, 0,
     ];
 
-    /// The place of the fault with that byte at that place, or `None` where there is none.
-    fn fault_with(alloc: Global, place: usize, byte: u8) -> Result<Option<u32>, Fail> {
+    /// What is at fault with these bytes at these places, or `None` where nothing is.
+    fn fault_of(
+        alloc: Global,
+        places: [usize; 2],
+        bytes: [u8; 2],
+    ) -> Result<Option<ClassFault>, Fail> {
         let mut content = CONTENT;
-        if place < content.len() {
-            content[place] = byte;
+        for (place, byte) in places.into_iter().zip(bytes) {
+            if place < content.len() {
+                content[place] = byte;
+            }
         }
-        match code(alloc, 27, &[], 1, 27, &content) {
+        let pool = KnownPool::of(alloc, List::new(alloc))?;
+        match code(alloc, 27, &pool, 1, 27, &content) {
             Ok((_, _)) => Ok(None),
-            Err(Stop::Fault(ClassFault { place, .. })) => Ok(Some(place)),
+            Err(Stop::Fault(fault)) => Ok(Some(fault)),
             Err(Stop::Memory) => Err(Fail::from("memory")),
         }
+    }
+
+    /// The place of the fault with that byte at that place, or `None` where there is none.
+    fn fault_with(alloc: Global, place: usize, byte: u8) -> Result<Option<u32>, Fail> {
+        Ok(fault_of(alloc, [place, place], [byte, byte])?.map(|fault| fault.place))
+    }
+
+    fn at(code: ClassCode, place: u32) -> Option<ClassFault> {
+        Some(ClassFault { code, place })
     }
 
     #[test]
@@ -194,6 +210,25 @@ mod tests {
     }
 
     #[test]
+    fn the_earlier_of_two_faults_is_told(rt: HostRuntime) -> Result<(), Fail> {
+        let alloc = rt.alloc();
+        // A row's class that isn't there has a code of its own, and its pcs come before it.
+        let class = fault_of(alloc, [24, 24], [9, 9])?;
+        assert_eq!(rt; class, at(ClassCode::PoolIndex, 17));
+        let pcs_before_class = fault_of(alloc, [20, 24], [8, 9])?;
+        assert_eq!(rt; pcs_before_class, at(ClassCode::CodeBounds, 17));
+        // A jump into an instruction comes before the row, and a bad opcode before the row's class.
+        let jump_before_row = fault_of(alloc, [11, 24], [2, 9])?;
+        assert_eq!(rt; jump_before_row, at(ClassCode::CodeBounds, 9));
+        let opcode_before_row = fault_of(alloc, [13, 24], [0xff, 9])?;
+        assert_eq!(rt; opcode_before_row, at(ClassCode::BadOpcode, 13));
+        // An attribute that is cut off comes before what is wrong with the code.
+        let attribute_before_opcode = fault_of(alloc, [8, 26], [0xff, 1])?;
+        assert_eq!(rt; attribute_before_opcode, at(ClassCode::Truncated, 27));
+        Ok(())
+    }
+
+    #[test]
     fn padding_is_kept_as_zeros(rt: HostRuntime) -> Result<(), Fail> {
         // iconst_0, a tableswitch of 0 to 0 whose two offsets lead to 20, and return
         let content = [
@@ -203,7 +238,8 @@ mod tests {
         let kept = [
             0x03, 0xaa, 0, 0, 0, 0, 0, 19, 0, 0, 0, 0, 0, 0, 0, 0, 0, 0, 0, 19, 0xb1,
         ];
-        let (found, rest) = code(rt.alloc(), 34, &[], 1, 33, &content).map_err(|_| "it is code")?;
+        let pool = KnownPool::of(rt.alloc(), List::new(rt.alloc()))?;
+        let (found, rest) = code(rt.alloc(), 34, &pool, 1, 33, &content).map_err(|_| "it is code")?;
         assert_eq!(rt; found.bytes.as_slice(), kept.as_slice());
         assert_eq!(rt; found.rows.as_slice().len(), 0);
         assert_eq!(rt; rest, [0xff].as_slice());

@@ -7,7 +7,7 @@ ghost use Rattle.class_pool.specs.Outcomes.{Gives};
 
 use crate::parts::{STATIC, has_flag, head, is_named, text_index};
 use class_pool::items::{bytes_of, fault_at, number_of_four, number_of_two, place_of};
-use class_pool::{ClassCode, FieldInfo, MemberKind, PoolEntry, Stop, entry_at, utf8_at};
+use class_pool::{ClassCode, FieldInfo, KnownPool, MemberKind, PoolEntry, Stop, entry_at, utf8_at};
 use jo_ids::List;
 use std::alloc::Global;
 
@@ -32,11 +32,11 @@ fn fits_constant(desc: &[u8], entry: &PoolEntry) -> bool
 }
 
 /// Whether a field whose descriptor has the index `desc` may have the constant with that index.
-fn is_constant(pool: &[PoolEntry], desc: u16, index: u16) -> bool
+fn is_constant(pool: &KnownPool, desc: u16, index: u16) -> bool
     ensures { result ≡ is_text_that (λ text. passes_constant text (entry_with pool.now index)) (utf8_with pool.now desc) }
 {
-    match utf8_at(pool, desc) {
-        Some(text) => match entry_at(pool, index) {
+    match utf8_at(pool.entries(), desc) {
+        Some(text) => match entry_at(pool.entries(), index) {
             Some(entry) => fits_constant(text, entry),
             None => false,
         },
@@ -47,7 +47,7 @@ fn is_constant(pool: &[PoolEntry], desc: u16, index: u16) -> bool
 /// The value of a ConstantValue behind its length `count`, which stands at `place`, and what follows.
 fn constant_value<'a>(
     size: u32,
-    pool: &[PoolEntry],
+    pool: &KnownPool,
     desc: u16,
     known: Option<u16>,
     place: u32,
@@ -70,7 +70,7 @@ fn constant_value<'a>(
 #[tactic(auto, unfolding(class_pool::specs::ClassOrder::field_attribute))]
 fn field_attribute<'a>(
     size: u32,
-    pool: &[PoolEntry],
+    pool: &KnownPool,
     head: (u16, u16, u16),
     known: Option<u16>,
     rest: &'a [u8],
@@ -98,7 +98,7 @@ fn field_attribute<'a>(
 /// The constant of so many attributes, and what follows.
 fn field_attributes<'a>(
     size: u32,
-    pool: &[PoolEntry],
+    pool: &KnownPool,
     head: (u16, u16, u16),
     count: u16,
     rest: &'a [u8],
@@ -114,7 +114,7 @@ fn field_attributes<'a>(
 }
 
 #[tactic(auto, unfolding(class_pool::specs::ClassOrder::read_field))]
-fn field<'a>(size: u32, pool: &[PoolEntry], rest: &'a [u8]) -> Result<(FieldInfo, &'a [u8]), Stop>
+fn field<'a>(size: u32, pool: &KnownPool, rest: &'a [u8]) -> Result<(FieldInfo, &'a [u8]), Stop>
     ensures { Gives (λ x. (x.0, x.1.now)) result (read_field size pool.now rest.now) }
 {
     let (head, rest) = head(size, pool, MemberKind::Field, rest)?;
@@ -134,7 +134,7 @@ fn field<'a>(size: u32, pool: &[PoolEntry], rest: &'a [u8]) -> Result<(FieldInfo
 pub fn fields<'a>(
     alloc: Global,
     size: u32,
-    pool: &[PoolEntry],
+    pool: &KnownPool,
     count: u16,
     rest: &'a [u8],
 ) -> Result<(List<FieldInfo>, &'a [u8]), Stop>

@@ -7,7 +7,7 @@ ghost use Rattle.class_read.specs.Codes.{seen, all_seen, located};
 
 use crate::operands::insn_fault;
 use class_pool::items::fault_at;
-use class_pool::{ClassCode, Cut, PoolEntry, Stop};
+use class_pool::{ClassCode, Cut, KnownPool, Stop};
 use jo_ids::List;
 use jo_insn::{Insn, InsnFault, decode};
 use std::alloc::Global;
@@ -31,7 +31,7 @@ fn code_for(fault: InsnFault) -> ClassCode
 }
 
 /// The instruction at a pc of code that stands at `place` of the file.
-fn placed_at(place: u32, pool: &[PoolEntry], code: &[u8], pc: u32) -> Result<Placed, Stop>
+fn placed_at(place: u32, pool: &KnownPool, code: &[u8], pc: u32) -> Result<Placed, Stop>
     requires within { pc < length code.now }
     requires room { place + length code.now < 2 ^ 32 }
     requires few { length code.now < 2 ^ 16 }
@@ -50,7 +50,7 @@ fn placed_at(place: u32, pool: &[PoolEntry], code: &[u8], pc: u32) -> Result<Pla
 pub fn instructions(
     alloc: Global,
     place: u32,
-    pool: &[PoolEntry],
+    pool: &KnownPool,
     code: &[u8],
 ) -> Result<List<Placed>, Stop>
     requires room { place + length code.now < 2 ^ 32 }

@@ -12,7 +12,7 @@ use crate::instructions::Placed;
 use crate::parts::dims_at;
 use byteorder::{BigEndian, ByteOrder};
 use class_pool::items::{behind, fault_at};
-use class_pool::{ClassCode, PoolEntry, RowInfo, Stop};
+use class_pool::{ClassCode, KnownPool, RowInfo, Stop};
 use jo_insn::Insn;
 use std::alloc::{AllocError, Global};
 
@@ -125,7 +125,7 @@ fn fits_code(starts: &[bool], size: usize, row: &RowInfo) -> bool
         && (usize::from(row.end) == size || is_start(starts, i64::from(row.end)))
 }
 
-fn row_fault(pool: &[PoolEntry], starts: &[bool], size: usize, row: &RowInfo) -> Option<ClassCode>
+fn row_fault(pool: &KnownPool, starts: &[bool], size: usize, row: &RowInfo) -> Option<ClassCode>
     ensures { result ≡ row_by (is_marked starts.now) pool.now size row.now }
 {
     if !fits_code(starts, size, row) {
@@ -141,7 +141,7 @@ fn row_fault(pool: &[PoolEntry], starts: &[bool], size: usize, row: &RowInfo) ->
 /// Checks the rows of code of this size, which stand at `place` of the file.
 pub fn check_rows(
     place: u32,
-    pool: &[PoolEntry],
+    pool: &KnownPool,
     starts: &[bool],
     size: usize,
     rows: &[RowInfo],

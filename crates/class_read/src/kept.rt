@@ -9,42 +9,22 @@ ghost use Rattle.class_read.specs.Starts.{IsPlacedIn};
 ghost use Rattle.class_read.specs.Kept.{words_of};
 
 use crate::instructions::Placed;
-use class_pool::{PoolEntry, desc_at, entry_at};
+use class_pool::{KnownPool, PoolEntry, entry_at};
 use jo_insn::{Insn, encode};
 use jo_text::Name;
 use std::alloc::{AllocError, Global};
 
 const INVOKE_INTERFACE: u8 = 185;
 
-/// How many words the arguments of a call with this descriptor take, its receiver included.
-fn argument_words(desc: &[u8]) -> usize
-    ensures { result ≡ Code.argument_words desc.now }
-{
-    let mut count = 0;
-    let mut in_name = false;
-    for byte in desc {
-        if in_name {
-            in_name = *byte != b';';
-        } else if *byte == b')' {
-            return 1 + count;
-        } else if !matches!(*byte, b'(' | b'[') {
-            count += 1;
-            in_name = *byte == b'L';
-        }
-    }
-    1 + count
-}
-
 /// The count behind the index of an invokeinterface.
-fn words_of(pool: &[PoolEntry], index: u16) -> u8
+fn words_of(pool: &KnownPool, index: u16) -> u8
     ensures { result ≡ words_of pool.now (entry_with pool.now index) }
 {
-    let Some(PoolEntry::InterfaceMethodRef(_, member)) = entry_at(pool, index) else {
-        return 0;
-    };
-    match desc_at(pool, *member) {
-        Some(desc) => (argument_words(desc) % 256) as u8,
-        None => 0,
+    match entry_at(pool.entries(), index) {
+        Some(PoolEntry::InterfaceMethodRef(_, member)) => {
+            pool.desc_facts_at(*member).argument_words
+        }
+        _ => 0,
     }
 }
 
@@ -59,7 +39,7 @@ fn table_of(code: &[u8], at: u32, next: u32) -> &[u8]
 
 /// Adds the bytes of an instruction of this code.
 fn add_placed(
-    pool: &[PoolEntry],
+    pool: &KnownPool,
     code: &[u8],
     placed: &Placed,
     kept: &mut Vec<u8>,
@@ -89,7 +69,7 @@ fn add_placed(
 /// The code with zero padding and with canonical counts.
 pub fn kept_code(
     alloc: Global,
-    pool: &[PoolEntry],
+    pool: &KnownPool,
     code: &[u8],
     insns: &[Placed],
 ) -> Result<Name, AllocError>

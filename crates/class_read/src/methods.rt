@@ -7,10 +7,9 @@ ghost use Rattle.class_pool.specs.Outcomes.{Gives};
 ghost use Rattle.class_read.specs.Methods.{method_attribute as read_attribute};
 
 use crate::code::code;
-use crate::operands::is_wide_desc;
 use crate::parts::{ABSTRACT, NATIVE, SYNCHRONIZED, has_flag, head, is_named, text_index};
 use class_pool::items::{bytes_of, fault_at, number_of_four, number_of_two, place_of};
-use class_pool::{ClassCode, CodeInfo, Cut, MemberKind, MethodInfo, PoolEntry, Stop, utf8_at};
+use class_pool::{ClassCode, CodeInfo, Cut, KnownPool, MemberKind, MethodInfo, Stop};
 use jo_ids::List;
 use std::alloc::{AllocError, Global};
 
@@ -19,7 +18,7 @@ use std::alloc::{AllocError, Global};
 fn method_attribute<'a>(
     alloc: Global,
     size: u32,
-    pool: &[PoolEntry],
+    pool: &KnownPool,
     rest: &'a [u8],
 ) -> Result<(Option<CodeInfo>, &'a [u8]), Stop>
     ensures { Gives (λ x. (x.0, x.1.now)) result (read_attribute size pool.now rest.now) }
@@ -39,7 +38,7 @@ fn method_attribute<'a>(
 fn method_attributes<'a>(
     alloc: Global,
     size: u32,
-    pool: &[PoolEntry],
+    pool: &KnownPool,
     count: u16,
     rest: &'a [u8],
 ) -> Result<(Vec<CodeInfo>, &'a [u8]), Stop>
@@ -57,8 +56,8 @@ fn method_attributes<'a>(
     Ok((codes, rest))
 }
 
-/// A method's own fault: it has a type of two words and may run, it is synchronized, or not exactly one of a Code and a
-/// flag that says that there is none is there.
+/// A method's own fault: a double, float or long is in its descriptor and it may run, it is synchronized, or not exactly one
+/// of a Code and a flag that says that there is none is there.
 fn method_fault(wide: bool, flags: u16, codes: &[CodeInfo]) -> Option<ClassCode>
     ensures { result ≡ first_failing (method_questions wide flags codes.now) }
 {
@@ -90,7 +89,7 @@ fn first_code(codes: Vec<CodeInfo>) -> Option<CodeInfo>
 fn method<'a>(
     alloc: Global,
     size: u32,
-    pool: &[PoolEntry],
+    pool: &KnownPool,
     rest: &'a [u8],
 ) -> Result<(MethodInfo, &'a [u8]), Stop>
     ensures { Gives (λ x. (x.0, x.1.now)) result (read_method size pool.now rest.now) }
@@ -98,7 +97,7 @@ fn method<'a>(
     let ((flags, name, desc), count_rest) = head(size, pool, MemberKind::Method, rest)?;
     let (count, attributes) = number_of_two(size, count_rest)?;
     let (codes, behind) = method_attributes(alloc, size, pool, count, attributes)?;
-    let wide = is_wide_desc(utf8_at(pool, desc));
+    let wide = pool.facts_at(desc).is_wide;
     if let Some(code) = method_fault(wide, flags, codes.as_slice()) {
         return Err(fault_at(code, place_of(size, rest)));
     }
@@ -115,7 +114,7 @@ fn method<'a>(
 pub fn methods<'a>(
     alloc: Global,
     size: u32,
-    pool: &[PoolEntry],
+    pool: &KnownPool,
     count: u16,
     rest: &'a [u8],
 ) -> Result<(List<MethodInfo>, &'a [u8]), Stop>

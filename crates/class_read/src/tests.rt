@@ -167,6 +167,9 @@ fn the_earlier_of_two_faults_is_told(rt: HostRuntime) {
         // an instruction before the next, and a Class as a constant
         [275, 4, 283, 0xff, 5, 273],
         [276, 0x13, 278, 4, 21, 276],
+        // the names and the lengths of Code's own attributes before its instructions
+        [283, 0xff, 289, 4, 5, 288],
+        [283, 0xff, 290, 1, 1, 319],
         // all instructions before a jump
         [278, 5, 283, 0xff, 9, 283],
         // a wide type before synchronized, and this before a body that isn't there

@@ -1,6 +1,6 @@
 use Rattle.std.proofs.Common.{◌≡◌, ◌≤◌, drop, false}
-use Rattle.class_read.specs.Kept.{parameters_in}
-use Rattle.class_read.proofs.kept.argument_words.Given as goal
+use Rattle.class_pool.proofs.Parameters.{parameters_in}
+use Rattle.class_pool.proofs.known.argument_words.Given as goal
 
 abbrev pub invariant-loop-byte : goal.invariant-loop-byte
 invariant-loop-byte l = record {
