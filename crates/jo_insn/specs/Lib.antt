@@ -1,4 +1,5 @@
 pub mod Opcodes
+pub mod ArrayKinds
 pub mod Instructions
 pub mod Rows
 pub mod Keys

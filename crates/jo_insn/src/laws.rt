@@ -1,7 +1,9 @@
 //! Laws of the spelling of instructions.
 ghost use Rattle.std.specs.Prelude.{◌≡◌, ℕ, ◌+◌, ◌<◌, ◌^◌, ◌++◌, List, length, Ok};
 ghost use Rattle.std.specs.List.{AllByRecursion};
-ghost use Rattle.jo_insn.specs.Instructions.{IsInsn, spelled, decoded, IsReadAs};
+ghost use Rattle.std.specs.Option.{is_some};
+ghost use Rattle.jo_insn.specs.ArrayKinds.{name_of_kind};
+ghost use Rattle.jo_insn.specs.Instructions.{IsInsn, is_array_kind, spelled, decoded, IsReadAs};
 ghost use Rattle.jo_insn.specs.declared.instructions.Insn.{Insn};
 
 /// What is spelled at a pc is read there, whatever follows.
@@ -13,4 +15,9 @@ pub fn spelled_is_decoded()
 /// What is read at a pc is spelled there, but for the padding of a switch.
 pub fn decoded_is_spelled()
     ensures { (code : List ℕ) (pc next : ℕ) (insn : Insn) → AllByRecursion (λ byte. byte < 2 ^ 8) code → decoded code pc ≡ Ok (insn, next) → IsReadAs code pc insn next }
+{}
+
+/// Exactly the array kinds of the profile have names.
+pub fn kinds_have_names()
+    ensures { (kind : ℕ) → is_some (name_of_kind kind) ≡ is_array_kind kind }
 {}

@@ -1,15 +1,17 @@
-//! The instructions of the Java Virtual Machine that the profile has (JVM Specification SE 8, chapter 6): the table of
-//! opcodes, and how instructions are read from code and written.
+//! The instructions of the Java Virtual Machine that the profile has (JVM Specification SE 8, chapter 6): the tables of
+//! opcodes and of array kinds, and how instructions are read from code and written.
 //!
 //! `laws` has what holds of the definitions: what is read is spelled so, and what is spelled so is read.
 #![tactic(auto)]
 
+mod array_kinds;
 mod decoder;
 mod encoder;
 mod instructions;
 pub mod laws;
 mod opcodes;
 
+pub use array_kinds::{kind_named, name_of_kind};
 pub use decoder::decode;
 pub use encoder::encode;
 pub use instructions::{Insn, InsnFault, Memory};

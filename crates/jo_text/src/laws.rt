@@ -2,7 +2,7 @@
 ghost use Rattle.std.specs.Prelude.{◌≡◌, ◌<◌, ◌^◌, ◌↔◌, ℕ, ℤ, List, true};
 ghost use Rattle.std.specs.List.{AllByRecursion};
 ghost use Rattle.jo_text.specs.Descriptors.{SpellsField, SpellsMethod, IsFieldDesc, IsMethodDesc, IsMemberName, IsClassName, IsClassOrArray};
-ghost use Rattle.jo_text.specs.Escapes.{escaped};
+ghost use Rattle.jo_text.specs.Escapes.{escaped, quoted};
 ghost use Rattle.jo_text.specs.Mutf8.{IsMutf8};
 ghost use Rattle.jo_text.specs.Numbers.{IsNumber};
 ghost use Rattle.jo_text.specs.Tests.{is_field_desc, is_method_desc, is_member_name, is_class_name, is_class_or_array, is_mutf8};
@@ -22,6 +22,11 @@ pub fn one_method_desc()
 /// A text is the spelling of at most one name.
 pub fn one_name()
     ensures { (one other : List ℕ) → AllByRecursion (λ byte. byte < 2 ^ 8) one → AllByRecursion (λ byte. byte < 2 ^ 8) other → escaped one ≡ escaped other → one ≡ other }
+{}
+
+/// A quoted text is that of at most one text of bytes.
+pub fn one_quoted()
+    ensures { (one other : List ℕ) → AllByRecursion (λ byte. byte < 2 ^ 8) one → AllByRecursion (λ byte. byte < 2 ^ 8) other → quoted one ≡ quoted other → one ≡ other }
 {}
 
 /// A text is the spelling of at most one number.
