@@ -1,6 +1,6 @@
-mod Sizes
+pub mod Sizes
 mod Kept
-mod Fits
-mod Bytes
-mod Again
+pub mod Fits
+pub mod Bytes
+pub mod Again
 mod Written

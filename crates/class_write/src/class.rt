@@ -5,7 +5,7 @@ ghost use Rattle.class_pool.specs.ClassGrammar.{u2, u4};
 ghost use Rattle.class_pool.specs.Writing.{spelled_pool};
 ghost use Rattle.class_write.specs.Spelling.{spelled_class, spelled_field, spelled_method, counted, FitsClass};
 
-use crate::members::{add_fields, add_methods};
+use crate::members::{add_members, attribute_names};
 use crate::numbers::{add_four, add_two};
 use class_pool::{ClassFile, write_pool};
 use jo_ids::Memory;
@@ -36,23 +36,31 @@ fn add_interfaces(interfaces: &[u16], out: &mut Vec<u8>) -> Result<(), Memory>
     Ok(())
 }
 
+/// The fields and the methods, with their counts. The pool is searched once for all of them.
+fn add_members_of(class: &ClassFile, out: &mut Vec<u8>) -> Result<(), Memory>
+    requires { FitsClass class.now }
+    ensures { OnOk result (out.new.items ≡ out.old.items ++ (counted (spelled_field class.now.pool) class.now.fields ++ counted (spelled_method class.now.pool) class.now.methods)) }
+{
+    let names = attribute_names(class.pool.as_slice());
+    add_members(
+        names,
+        class.fields.as_slice(),
+        class.methods.as_slice(),
+        out,
+    )
+}
+
 /// The bytes behind the pool.
 fn add_behind(class: &ClassFile, out: &mut Vec<u8>) -> Result<(), Memory>
     requires { FitsClass class.now }
     ensures { OnOk result (out.new.items ≡ out.old.items ++ (u2 class.now.flags ++ u2 class.now.this_class ++ u2 class.now.super_class
         ++ counted u2 class.now.interfaces ++ counted (spelled_field class.now.pool) class.now.fields ++ counted (spelled_method class.now.pool) class.now.methods ++ u2 0)) }
 {
-    let pool = class.pool.as_slice();
-    let fields = class.fields.as_slice();
-    let methods = class.methods.as_slice();
     add_two(class.flags, out)?;
     add_two(class.this_class, out)?;
     add_two(class.super_class, out)?;
     add_interfaces(class.interfaces.as_slice(), out)?;
-    add_two(fields.len() as u16, out)?;
-    add_fields(pool, fields, out)?;
-    add_two(methods.len() as u16, out)?;
-    add_methods(pool, methods, out)?;
+    add_members_of(class, out)?;
     add_two(0, out)
 }
 

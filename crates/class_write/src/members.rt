@@ -1,11 +1,30 @@
 //! Writes fields and methods (JVM Specification SE 8, 4.5 to 4.7).
 ghost use Rattle.std.specs.Prelude.{◌≡◌, ◌<◌, ◌^◌, ◌++◌, length, Some, OnOk};
 ghost use Rattle.std.specs.List.{AllByRecursion, flat_map};
-ghost use Rattle.class_write.specs.Spelling.{spelled_head, spelled_attribute, spelled_constant, spelled_field, spelled_row, spelled_content, spelled_code, spelled_method, FitsContent, FitsMethod, counted};
+ghost use Rattle.class_write.specs.Spelling.{spelled_head, spelled_row, spelled_content, FitsContent, counted};
+ghost use Rattle.class_write.specs.Named.{names_in, attribute_named, constant_named, field_named, code_named, method_named, HasFittingCode};
 
 use crate::numbers::{add_four, add_two, text_index};
 use class_pool::{CodeInfo, FieldInfo, MethodInfo, PoolEntry, RowInfo};
 use jo_ids::Memory;
+
+/// The indices of the attributes' names. A pool is searched for them once, however many members there are.
+#[derive(Clone, Copy)]
+pub struct AttributeNames {
+    code: u16,
+    constant_value: u16,
+}
+
+/// The indices in a pool, 0 for a name that it doesn't have.
+pub fn attribute_names(pool: &[PoolEntry]) -> AttributeNames
+    requires { length pool.now < 65535 }
+    ensures { result ≡ names_in pool.now }
+{
+    AttributeNames {
+        code: text_index(pool, b"Code"),
+        constant_value: text_index(pool, b"ConstantValue"),
+    }
+}
 
 /// What begins a field or a method.
 fn add_head(flags: u16, name: u16, desc: u16, out: &mut Vec<u8>) -> Result<(), Memory>
@@ -16,48 +35,39 @@ fn add_head(flags: u16, name: u16, desc: u16, out: &mut Vec<u8>) -> Result<(), M
     add_two(desc, out)
 }
 
-/// The count of one attribute, and what begins it: its name, and the size of its content.
-fn add_attribute(
-    pool: &[PoolEntry],
-    name: &[u8],
-    size: u32,
-    out: &mut Vec<u8>,
-) -> Result<(), Memory>
-    requires { length pool.now < 65535 }
-    ensures { OnOk result (out.new.items ≡ out.old.items ++ spelled_attribute pool.now name.now size) }
+/// The count of one attribute, and what begins it: the index of its name, and the size of its content.
+fn add_attribute(name: u16, size: u32, out: &mut Vec<u8>) -> Result<(), Memory>
+    ensures { OnOk result (out.new.items ≡ out.old.items ++ attribute_named name size) }
 {
     add_two(1, out)?;
-    add_two(text_index(pool, name), out)?;
+    add_two(name, out)?;
     add_four(size, out)
 }
 
 /// One attribute, a ConstantValue.
-fn add_constant(pool: &[PoolEntry], constant: u16, out: &mut Vec<u8>) -> Result<(), Memory>
-    requires { length pool.now < 65535 }
-    ensures { OnOk result (out.new.items ≡ out.old.items ++ spelled_constant pool.now (Some constant)) }
+fn add_constant(name: u16, constant: u16, out: &mut Vec<u8>) -> Result<(), Memory>
+    ensures { OnOk result (out.new.items ≡ out.old.items ++ constant_named name (Some constant)) }
 {
-    add_attribute(pool, b"ConstantValue", 2, out)?;
+    add_attribute(name, 2, out)?;
     add_two(constant, out)
 }
 
-fn add_field(pool: &[PoolEntry], field: &FieldInfo, out: &mut Vec<u8>) -> Result<(), Memory>
-    requires { length pool.now < 65535 }
-    ensures { OnOk result (out.new.items ≡ out.old.items ++ spelled_field pool.now field.now) }
+fn add_field(names: AttributeNames, field: &FieldInfo, out: &mut Vec<u8>) -> Result<(), Memory>
+    ensures { OnOk result (out.new.items ≡ out.old.items ++ field_named names field.now) }
 {
     add_head(field.flags, field.name, field.desc, out)?;
     match field.constant {
         None => add_two(0, out),
-        Some(constant) => add_constant(pool, constant, out),
+        Some(constant) => add_constant(names.constant_value, constant, out),
     }
 }
 
 /// The fields, without their count.
-pub fn add_fields(pool: &[PoolEntry], fields: &[FieldInfo], out: &mut Vec<u8>) -> Result<(), Memory>
-    requires { length pool.now < 65535 }
-    ensures { OnOk result (out.new.items ≡ out.old.items ++ flat_map (spelled_field pool.now) fields.now) }
+fn add_fields(names: AttributeNames, fields: &[FieldInfo], out: &mut Vec<u8>) -> Result<(), Memory>
+    ensures { OnOk result (out.new.items ≡ out.old.items ++ flat_map (field_named names) fields.now) }
 {
     for field in fields {
-        add_field(pool, field, out)?;
+        add_field(names, field, out)?;
     }
     Ok(())
 }
@@ -98,40 +108,55 @@ fn add_content(code: &CodeInfo, out: &mut Vec<u8>) -> Result<(), Memory>
 }
 
 /// One attribute, a Code.
-fn add_code(pool: &[PoolEntry], code: &CodeInfo, out: &mut Vec<u8>) -> Result<(), Memory>
-    requires pool { length pool.now < 65535 }
-    requires code { FitsContent code.now }
-    ensures { OnOk result (out.new.items ≡ out.old.items ++ spelled_code pool.now (Some code.now)) }
+fn add_code(name: u16, code: &CodeInfo, out: &mut Vec<u8>) -> Result<(), Memory>
+    requires { FitsContent code.now }
+    ensures { OnOk result (out.new.items ≡ out.old.items ++ code_named name (Some code.now)) }
 {
     let size = 12 + code.bytes.as_slice().len() + 8 * code.rows.as_slice().len();
-    add_attribute(pool, b"Code", size as u32, out)?;
+    add_attribute(name, size as u32, out)?;
     add_content(code, out)
 }
 
-fn add_method(pool: &[PoolEntry], method: &MethodInfo, out: &mut Vec<u8>) -> Result<(), Memory>
-    requires pool { length pool.now < 65535 }
-    requires method { FitsMethod pool.now method.now }
-    ensures { OnOk result (out.new.items ≡ out.old.items ++ spelled_method pool.now method.now) }
+fn add_method(names: AttributeNames, method: &MethodInfo, out: &mut Vec<u8>) -> Result<(), Memory>
+    requires { HasFittingCode method.now }
+    ensures { OnOk result (out.new.items ≡ out.old.items ++ method_named names method.now) }
 {
     add_head(method.flags, method.name, method.desc, out)?;
     match &method.code {
         None => add_two(0, out),
-        Some(code) => add_code(pool, code, out),
+        Some(code) => add_code(names.code, code, out),
     }
 }
 
 /// The methods, without their count.
-pub fn add_methods(
-    pool: &[PoolEntry],
+fn add_methods(
+    names: AttributeNames,
     methods: &[MethodInfo],
     out: &mut Vec<u8>,
 ) -> Result<(), Memory>
-    requires pool { length pool.now < 65535 }
-    requires methods { AllByRecursion (FitsMethod pool.now) methods.now }
-    ensures { OnOk result (out.new.items ≡ out.old.items ++ flat_map (spelled_method pool.now) methods.now) }
+    requires { AllByRecursion HasFittingCode methods.now }
+    ensures { OnOk result (out.new.items ≡ out.old.items ++ flat_map (method_named names) methods.now) }
 {
     for method in methods {
-        add_method(pool, method, out)?;
+        add_method(names, method, out)?;
     }
     Ok(())
+}
+
+/// The fields and the methods, with their counts.
+pub fn add_members(
+    names: AttributeNames,
+    fields: &[FieldInfo],
+    methods: &[MethodInfo],
+    out: &mut Vec<u8>,
+) -> Result<(), Memory>
+    requires few_fields { length fields.now < 2 ^ 16 }
+    requires few_methods { length methods.now < 2 ^ 16 }
+    requires codes { AllByRecursion HasFittingCode methods.now }
+    ensures { OnOk result (out.new.items ≡ out.old.items ++ (counted (field_named names) fields.now ++ counted (method_named names) methods.now)) }
+{
+    add_two(fields.len() as u16, out)?;
+    add_fields(names, fields, out)?;
+    add_two(methods.len() as u16, out)?;
+    add_methods(names, methods, out)
 }
