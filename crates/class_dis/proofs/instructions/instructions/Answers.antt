@@ -1,0 +1,23 @@
+use Rattle.std.proofs.Common.{◌<◌, ◌-◌, length, [], ◌∷◌, sym, ◌∙◌, arith}
+use Rattle.std.proofs.lemmas.List.{map-append}
+use Rattle.jo_insn.proofs.DecodedMoves.{decoded-moves}
+use Rattle.class_dis.specs.Insns.{seen, all_seen}
+use Rattle.class_dis.proofs.InsnSteps.{begins, takes, is_all}
+use Rattle.class_dis.proofs.instructions.instructions.Goals as goal
+
+pub loop-insn-init : goal.loop-insn-init
+loop-insn-init c = rw c.new-insns.ensures (begins c.args.code.now)
+
+pub loop-insn-smaller : goal.loop-insn-smaller
+loop-insn-smaller c =
+    let moves = decoded-moves c.args.code.now c.loop-insn.pc c.in-Ok.next c.in-Ok.insn (sym c.decode.ensures ∙ c.in-Ok.is) in
+    let smaller : length c.args.code.now - c.in-Ok.next < length c.args.code.now - c.loop-insn.pc = omega arith in
+    smaller
+
+pub loop-insn-preserved : goal.loop-insn-preserved
+loop-insn-preserved c =
+    rw (c.in-Ok-push.ensures.ok, map-append seen c.loop-insn.insns (record { pc = c.loop-insn.pc; insn = c.in-Ok.insn; next = c.in-Ok.next } ∷ []))
+    (takes c.args.code.now (all_seen c.loop-insn.insns) c.loop-insn.pc c.in-Ok.next c.in-Ok.insn (sym c.decode.ensures ∙ c.in-Ok.is) c.loop-insn.invariant)
+
+pub returns : goal.returns
+returns c = is_all c.args.code.now (all_seen c.loop-insn.insns) c.loop-insn.pc c.in_default.field-0 (sym c.decode.ensures ∙ c.in_default.is) c.loop-insn.invariant

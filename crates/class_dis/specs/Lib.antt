@@ -1,0 +1,5 @@
+pub mod Insns
+pub mod Labels
+pub mod Listing
+pub mod Names
+pub mod Words
