@@ -10,5 +10,3 @@ pub mod program;
 pub mod runner;
 pub mod runs;
 pub mod spelling;
-#[cfg(test)]
-mod tests;
