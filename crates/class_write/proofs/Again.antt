@@ -14,7 +14,7 @@ use Rattle.class_pool.specs.declared.entries.PoolEntry.{PoolEntry}
 use Rattle.class_pool.specs.declared.classes.RowInfo.{RowInfo}
 use Rattle.class_pool.specs.Code.{Placed, canonical_table, canonical_code, jumps_of, offsets_of}
 use Rattle.class_pool.specs.ClassGrammar.{AreInsnsFrom, ends, goes_on, IsStart, JumpsWell, IsRow}
-use Rattle.class_write.proofs.Sizes.{table_of, ends_at}
+use Rattle.class_write.proofs.Sizes.{table_of, ends_at, head_length, pairs_head_length}
 use Rattle.class_write.proofs.Kept.{kept_insn}
 
 -- ---- the offsets of a switch are in its table
@@ -41,12 +41,6 @@ offsets_same (suc n) step k table rest other room long =
     rw (first, later) refl
 
 -- ---- one instruction
-
-head_length : (a b d e : List ℕ) → length (a ++ b ++ d ++ e) ≡ length a + length b + length d + length e
-head_length a b d e = simp length-append
-
-pairs_head_length : (a b d : List ℕ) → length (a ++ b ++ d) ≡ length a + length b + length d
-pairs_head_length a b d = simp length-append
 
 table_behind : (front head table rest whole : List ℕ) (at : ℕ) → whole ≡ front ++ (head ++ table) ++ rest → length front + length head ≡ at → drop at whole ≡ table ++ rest
 table_behind front head table rest whole at same long =

@@ -69,6 +69,13 @@ either : (P : Insn × ℕ → Type 0) (test : Bool) (this other : Result (Insn �
 either P true this other p q = p
 either P false this other p q = q
 
+-- what stands before the offsets or the pairs of a switch
+pub head_length : (a b d e : List ℕ) → length (a ++ b ++ d ++ e) ≡ length a + length b + length d + length e
+head_length a b d e = simp length-append
+
+pub pairs_head_length : (a b d : List ℕ) → length (a ++ b ++ d) ≡ length a + length b + length d
+pairs_head_length a b d = simp length-append
+
 module _ (pool : List PoolEntry) (code : List ℕ) (pc : ℕ) where
   -- where it ends within the code, its spelling is as long
   abbrev IsLong : Insn × ℕ → Type 0
@@ -81,12 +88,6 @@ module _ (pool : List PoolEntry) (code : List ℕ) (pc : ℕ) where
       let taken = length-take-le (next - at) (drop at code) (omega arith) in
       let parts = length-append head (take (next - at) (drop at code)) in
       omega arith
-
-  head_length : (a b d e : List ℕ) → length (a ++ b ++ d ++ e) ≡ length a + length b + length d + length e
-  head_length a b d e = simp length-append
-
-  pairs_head_length : (a b d : List ℕ) → length (a ++ b ++ d) ≡ length a + length b + length d
-  pairs_head_length a b d = simp length-append
 
   offsets_long : (other low high : ℤ) (table : List ℕ) → IfOk (with_offsets pc other low high table) IsLong
   offsets_long other low high table =
