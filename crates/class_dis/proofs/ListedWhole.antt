@@ -33,7 +33,7 @@ short_codes pool (method ∷ more) all = (short_code pool method.code all.0.code
 -- ---- the instructions are all of the code
 
 module _ (pool : List PoolEntry) (code : List ℕ) where
-  nothing_past : (pc k : ℕ) (read : Result (Insn × ℕ) InsnFault) → length code ≤ pc → decoded code pc ≡ read → insns_from k code pc ≡ []
+  pub nothing_past : (pc k : ℕ) (read : Result (Insn × ℕ) InsnFault) → length code ≤ pc → decoded code pc ≡ read → insns_from k code pc ≡ []
   nothing_past pc k (Err fault) past is = none_left code k pc fault is
   nothing_past pc k (Ok (insn, next)) past is = let moves = decoded-moves code pc next insn is in absurd (omega arith)
 
@@ -55,21 +55,27 @@ code_whole pool c content all h =
     let some : 0 < length h.code = h.not_empty in
     (omega arith, covered pool c.bytes (length c.bytes) (again pool h.code bytes c.bytes [] h.instructions refl h.kept) (omega arith))
 
-codes_whole : {pool : List PoolEntry} {attributes : List Attribute} {found : List CodeInfo} → HasCodes pool attributes found → AllByRecursion (λ (attribute : Attribute). AllBytes attribute.content) attributes → AllByRecursion (λ (c : CodeInfo). IsListedWhole (Some c)) found
-codes_whole no_code all = tt
-codes_whole (not_code attribute more found other has) all = codes_whole has all.1
-codes_whole {pool = pool} (code_attribute attribute more c found named spelled has) all = (code_whole pool c attribute.content all.0 spelled, codes_whole has all.1)
+-- ---- each code of a class
 
-one_code : (code : Option CodeInfo) → AllByRecursion (λ (c : CodeInfo). IsListedWhole (Some c)) (codes_in code) → IsListedWhole code
-one_code None all = tt
-one_code (Some c) all = all.0
+codes_so : {pool : List PoolEntry} (P : Option CodeInfo → Type 0) → ((code : CodeInfo) (content : List ℕ) → AllBytes content → SpellsCode pool code content → P (Some code)) → {attributes : List Attribute} {found : List CodeInfo}
+    → HasCodes pool attributes found → AllByRecursion (λ (attribute : Attribute). AllBytes attribute.content) attributes → AllByRecursion (λ (code : CodeInfo). P (Some code)) found
+codes_so P one no_code all = tt
+codes_so P one (not_code attribute more found other has) all = codes_so P one has all.1
+codes_so P one (code_attribute attribute more c found named spelled has) all = (one c attribute.content all.0 spelled, codes_so P one has all.1)
 
-method_whole : (pool : List PoolEntry) (m : MethodInfo) (bytes : List ℕ) → InBytes (SpellsMethod pool) m bytes → IsListedWhole m.code
-method_whole pool m bytes (all, h) = one_code m.code (codes_whole h.body (contents_bytes pool m bytes all h))
+one_code : (P : Option CodeInfo → Type 0) → P None → (code : Option CodeInfo) → AllByRecursion (λ (c : CodeInfo). P (Some c)) (codes_in code) → P code
+one_code P without None all = without
+one_code P without (Some c) all = all.0
 
-pub all_whole : (bytes : List ℕ) (c : ClassFile) → AllBytes bytes → IsClass bytes c → AllByRecursion (λ (method : MethodInfo). IsListedWhole method.code) c.methods
-all_whole bytes c all h =
+-- what holds of each code that is spelled, and where there is none, holds of each method's
+pub each_code : (bytes : List ℕ) (c : ClassFile) → AllBytes bytes → IsClass bytes c → (P : Option CodeInfo → Type 0) → P None → ((code : CodeInfo) (content : List ℕ) → AllBytes content → SpellsCode c.pool code content → P (Some code))
+    → AllByRecursion (λ (method : MethodInfo). P method.code) c.methods
+each_code bytes c all h P without one =
     let (methods, at_methods, few_methods, each_method) = h.methods in
     let inside = bytes_behind (u2 (length c.methods)) methods (subst AllBytes at_methods (methods_bytes bytes c all h)) in
     let each = each_in_bytes (SpellsMethod c.pool) c.methods methods inside each_method in
-    each_so (InBytes (SpellsMethod c.pool)) (λ (method : MethodInfo). IsListedWhole method.code) (method_whole c.pool) c.methods methods each
+    let method : (m : MethodInfo) (text : List ℕ) → InBytes (SpellsMethod c.pool) m text → P m.code = λ m text is. one_code P without m.code (codes_so P one is.1.body (contents_bytes c.pool m text is.0 is.1)) in
+    each_so (InBytes (SpellsMethod c.pool)) (λ (m : MethodInfo). P m.code) method c.methods methods each
+
+pub all_whole : (bytes : List ℕ) (c : ClassFile) → AllBytes bytes → IsClass bytes c → AllByRecursion (λ (method : MethodInfo). IsListedWhole method.code) c.methods
+all_whole bytes c all h = each_code bytes c all h IsListedWhole tt (code_whole c.pool)

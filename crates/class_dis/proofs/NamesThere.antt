@@ -14,7 +14,7 @@ use Rattle.class_pool.specs.ClassGrammar.{SpellsField, IsRow, Attribute, HasCode
 use Rattle.class_write.proofs.Fits.{each_so}
 use Rattle.class_dis.specs.Names.{HasClass, HasMember, HasCaught, HasNames}
 
-is_there : {A : Type 0} (o : Option A) (P : A → Type 0) → IsSomeAnd o P → IsSome o
+pub is_there : {A : Type 0} (o : Option A) (P : A → Type 0) → IsSomeAnd o P → IsSome o
 is_there None P is = absurd is
 is_there (Some x) P is = refl
 
