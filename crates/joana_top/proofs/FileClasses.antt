@@ -1,5 +1,5 @@
 -- From what the reader says of single files to what is said of the files of a command.
-use Rattle.std.proofs.Common.{◌≡◌, ◌∙◌, ℕ, suc, ◌+◌, ◌<◌, ◌≤◌, ◌^◌, Bool, true, false, cond, ◌||◌, List, [], ◌∷◌, ◌++◌, length, drop, get_or, Result, Ok, Err, refl, sym, ap, subst, append_assoc, arith}
+use Rattle.std.proofs.Common.{◌≡◌, ◌∙◌, ℕ, suc, ◌+◌, ◌<◌, ◌≤◌, ◌^◌, Bool, true, false, ◌||◌, List, [], ◌∷◌, ◌++◌, length, drop, get_or, Result, Ok, Err, refl, sym, ap, subst, append_assoc, arith}
 use Rattle.std.specs.List.{list_any}
 use Rattle.std.proofs.lemmas.Bool.{ltb-false}
 use Rattle.std.specs.Prelude.{Vec}
@@ -13,14 +13,13 @@ use Rattle.class_pool.specs.declared.faults.ClassCode.TheVariants.{Memory as Out
 use Rattle.class_pool.specs.declared.faults.ClassFault.{ClassFault}
 use Rattle.class_pool.proofs.GrammarClass.{class_again}
 use Rattle.class_read.specs.Faults.{IsFaultBy, IsFault}
-use Rattle.joana_top.specs.Files.{is_large, class_numbered, file_class, before, classes_from, classes_of}
+use Rattle.joana_top.specs.Files.{is_large, class_numbered, before, classes_from}
 use Rattle.joana_top.specs.Reading.{all_bytes, AreClasses, Comes}
 use Rattle.joana_top.specs.declared.answers.Stop.{Stop}
 use Rattle.joana_top.specs.declared.answers.Stop.TheVariants as stops
 use Rattle.joana_top.specs.declared.status.InputFault.TheVariants.{Class}
-use Rattle.joana_top.specs.declared.status.LimitKind.TheVariants.{M2}
 use Rattle.joana_top.specs.declared.status.Refusal.{Refusal}
-use Rattle.joana_top.specs.declared.status.Refusal.TheVariants.{Input, Limit}
+use Rattle.joana_top.specs.declared.status.Refusal.TheVariants.{Input}
 
 pub small_file : (file : List ℕ) → is_large file ≡ false → length file < 2 ^ 31
 small_file file small = let below = ltb-false 1048576 (length file) small in omega (arith, below)
@@ -125,17 +124,3 @@ module _ (files : List (Vec ℕ Global)) (front : List ClassFile) (i : ℕ) (pas
       let Matches : List (Vec ℕ Global) → Type 0 = λ xs. (others : List ClassFile) → AreClasses (all_bytes xs) others → AreClasses (all_bytes files) (front ++ others) in
       let Classes : List ClassFile → Type 0 = AreClasses (all_bytes files) in
       subst Classes (append-nil front) (subst Matches (drop_all i files past) on.matched [] tt)
-
--- ---- all files
-
-pub too_large : (files : List (List ℕ)) → true ≡ list_any is_large files → classes_of files ≡ Err (Limit M2)
-too_large files e = ap (λ b. cond {A = Result (List ClassFile) Refusal} b (Err (Limit M2)) (classes_from 0 files)) (sym e)
-
-pub none_large : (files : List (List ℕ)) → false ≡ list_any is_large files → classes_of files ≡ classes_from 0 files
-none_large files e = ap (λ b. cond {A = Result (List ClassFile) Refusal} b (Err (Limit M2)) (classes_from 0 files)) (sym e)
-
-pub large_file : (file : List ℕ) → true ≡ is_large file → file_class file ≡ Err (Limit M2)
-large_file file e = ap (λ b. cond {A = Result ClassFile Refusal} b (Err (Limit M2)) (class_numbered 0 (class_of file))) (sym e)
-
-pub not_large : (file : List ℕ) → false ≡ is_large file → file_class file ≡ class_numbered 0 (class_of file)
-not_large file e = ap (λ b. cond {A = Result ClassFile Refusal} b (Err (Limit M2)) (class_numbered 0 (class_of file))) (sym e)
