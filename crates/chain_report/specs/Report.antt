@@ -3,10 +3,10 @@ use Rattle.std.specs.Prelude.{ℕ, List, [], ◌∷◌, ◌++◌, Option, Some, 
 use Rattle.std.specs.List.{flat_map}
 use Rattle.jo_prog.specs.declared.program.Program.{Program}
 use Rattle.jo_prog.specs.declared.labels.Labels.{Labels}
-use Rattle.flow_graph.specs.declared.dep_nodes.EdgeKind.{EdgeKind}
-use Rattle.flow_graph.specs.declared.dep_nodes.EdgeKind.TheVariants.{Data, Control, Out, Arg, Call, Ret, Heap, Fork}
-use Rattle.flow_graph.specs.Graph.{Node}
-use Rattle.flow_graph.specs.Chains.{Link}
+use Rattle.dep_nodes.specs.declared.kinds.EdgeKind.{EdgeKind}
+use Rattle.dep_nodes.specs.declared.kinds.EdgeKind.TheVariants.{Data, Control, Out, Arg, Call, Ret, Heap, Fork}
+use Rattle.dependence.specs.Graph.{Node}
+use Rattle.dependence.specs.Chains.{Link}
 use Rattle.chain_report.specs.Nodes.{spelled_node}
 use Rattle.jo_text.specs.Escapes.{escaped}
 

@@ -1,13 +1,13 @@
 //! Reports on illegal chains.
 ghost use Rattle.std.specs.Prelude.{◌≡◌, ◌++◌, Some, OnOk, IfOk, option_map};
 ghost use Rattle.std.specs.List.{flat_map};
-ghost use Rattle.flow_graph.specs.Graph.{Node};
-ghost use Rattle.flow_graph.specs.GraphData.{graph_node, link_of, links_of, node_named};
+ghost use Rattle.dependence.specs.Graph.{Node};
+ghost use Rattle.dependence.specs.GraphData.{graph_node, link_of, links_of, node_named};
 ghost use Rattle.chain_report.specs.Report.{chain_text, level_name, spelled_word, step_line, step_text};
 ghost use Rattle.chain_report.specs.Nodes.{spelled_node};
 
 use crate::nodes::push_node;
-use flow_graph::dep_nodes::{Chain, EdgeKind, Graph, NodeName, Step, Word};
+use dep_nodes::{Chain, EdgeKind, Graph, NodeName, Step, Word};
 use jo_ids::{LevelId, NodeId};
 use jo_prog::labels::Labels;
 use jo_prog::program::Program;

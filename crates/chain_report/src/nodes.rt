@@ -1,11 +1,10 @@
 //! How texts spell the nodes of a graph.
 ghost use Rattle.std.specs.Prelude.{◌≡◌, ◌++◌, ◌∷◌, OnOk};
 ghost use Rattle.std.specs.Fmt.{decimal};
-ghost use Rattle.flow_graph.specs.GraphData.{node_named};
+ghost use Rattle.dependence.specs.GraphData.{node_named};
 ghost use Rattle.chain_report.specs.Nodes.{numbered, spelled_kind, spelled_node};
 
-use flow_graph::dep_nodes::NodeName;
-use flow_graph::flow::NodeKind;
+use dep_nodes::{NodeKind, NodeName};
 use jo_ids::Memory;
 use jo_prog::program::Program;
 use jo_prog::spelling::push_method;

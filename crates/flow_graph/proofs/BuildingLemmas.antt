@@ -2,13 +2,13 @@
 use Rattle.std.proofs.Common.{◌≡◌, ◌==◌, ℕ, cond, Bool, true, false, ◌&&◌, List, [], ◌∷◌, ◌++◌, Contains, refl, sym, ap, subst, ◌∙◌, arith, append_assoc}
 use Rattle.std.proofs.lemmas.List.{append-nil}
 use Rattle.jo_prog.specs.declared.operations.Operation.{Operation}
-use Rattle.flow_graph.specs.declared.flow.Place.{Place}
-use Rattle.flow_graph.specs.declared.dep_nodes.EdgeKind.TheVariants.{Heap}
-use Rattle.flow_graph.specs.declared.dep_nodes.Edge.{Edge}
+use Rattle.dependence.specs.declared.flow.Place.{Place}
+use Rattle.dep_nodes.specs.declared.kinds.EdgeKind.TheVariants.{Heap}
+use Rattle.dep_nodes.specs.declared.graphs.Edge.{Edge}
 use Rattle.flow_graph.specs.declared.sdg.Definitions.{Definitions}
 use Rattle.flow_graph.specs.declared.sdg.SourceResult.{SourceResult}
-use Rattle.flow_graph.specs.Flow.{writes_of}
-use Rattle.flow_graph.specs.GraphData.{edge}
+use Rattle.dependence.specs.Flow.{writes_of}
+use Rattle.dependence.specs.GraphData.{edge}
 use Rattle.flow_graph.specs.Building.{HasPlace, heap_edges}
 
 -- the one place that an operation writes stands in the tables

@@ -5,14 +5,14 @@ use Rattle.std.proofs.lemmas.Option.{same_Some, none-some, slice_get_past}
 use Rattle.std.proofs.lemmas.Bool.{cases_lt}
 use Rattle.jo_prog.specs.declared.program.Program.{Program}
 use Rattle.jo_prog.specs.declared.labels.Labels.{Labels}
-use Rattle.flow_graph.specs.declared.dep_nodes.EdgeKind.{EdgeKind}
-use Rattle.flow_graph.specs.declared.dep_nodes.Step.{Step}
-use Rattle.flow_graph.specs.declared.dep_nodes.Word.TheVariants.{Edge as AnEdge}
-use Rattle.flow_graph.specs.declared.dep_nodes.Graph.{Graph}
-use Rattle.flow_graph.specs.Graph.{Node, DependenceEdge, used, passed, shown, controlled, ended, next_input}
-use Rattle.flow_graph.specs.Chains.{CallSite, open_after, Link, IsChainFrom, IsValidChain, end_of, HasChain}
+use Rattle.dep_nodes.specs.declared.kinds.EdgeKind.{EdgeKind}
+use Rattle.dep_nodes.specs.declared.chains.Step.{Step}
+use Rattle.dep_nodes.specs.declared.chains.Word.TheVariants.{Edge as AnEdge}
+use Rattle.dep_nodes.specs.declared.graphs.Graph.{Graph}
+use Rattle.dependence.specs.Graph.{Node, DependenceEdge, used, passed, shown, controlled, ended, next_input}
+use Rattle.dependence.specs.Chains.{CallSite, open_after, Link, IsChainFrom, IsValidChain, end_of, HasChain}
 use Rattle.flow_graph.specs.Slices.{HasEdgesInside}
-use Rattle.flow_graph.specs.GraphData.{graph_node, node_named, edge, IsDependenceGraph, IsWalk, walk_end, WalksTo, link_with, link_of, links_of}
+use Rattle.dependence.specs.GraphData.{graph_node, node_named, edge, IsDependenceGraph, IsWalk, walk_end, WalksTo, link_with, link_of, links_of}
 
 -- an edge never fails at the open calls
 edge_opens : (program : Program) (labels : Labels) (calls : List CallSite) (a b : Node) (kind : EdgeKind) → DependenceEdge program labels a kind b → (next : List CallSite) × (open_after calls a kind b ≡ Some next)

@@ -3,13 +3,13 @@ use Rattle.std.proofs.Common.{◌≡◌, ◌⊎◌, inl, inr, ℕ, zero, suc, �
 use Rattle.std.proofs.lemmas.Option.{none-some, same_Some}
 use Rattle.jo_prog.specs.declared.program.Program.{Program}
 use Rattle.jo_prog.specs.declared.labels.Labels.{Labels}
-use Rattle.flow_graph.specs.declared.flow.NodeKind.{NodeKind}
-use Rattle.flow_graph.specs.declared.flow.NodeKind.TheVariants.{Entry, Exit, Instr, Call, RetVal, Arg, Kind, Thrown}
-use Rattle.flow_graph.specs.declared.dep_nodes.EdgeKind.{EdgeKind}
-use Rattle.flow_graph.specs.declared.dep_nodes.NodeName.{NodeName}
-use Rattle.flow_graph.specs.declared.dep_nodes.Edge.{Edge}
-use Rattle.flow_graph.specs.Graph.{Node, IsNode, DependenceEdge}
-use Rattle.flow_graph.specs.GraphData.{node_named, resolved_of, edge}
+use Rattle.dep_nodes.specs.declared.kinds.NodeKind.{NodeKind}
+use Rattle.dep_nodes.specs.declared.kinds.NodeKind.TheVariants.{Entry, Exit, Instr, Call, RetVal, Arg, Kind, Thrown}
+use Rattle.dep_nodes.specs.declared.kinds.EdgeKind.{EdgeKind}
+use Rattle.dep_nodes.specs.declared.graphs.NodeName.{NodeName}
+use Rattle.dep_nodes.specs.declared.graphs.Edge.{Edge}
+use Rattle.dependence.specs.Graph.{Node, IsNode, DependenceEdge}
+use Rattle.dependence.specs.GraphData.{node_named, resolved_of, edge}
 
 -- ---- lists
 

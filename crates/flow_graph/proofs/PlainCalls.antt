@@ -14,20 +14,20 @@ use Rattle.jo_prog.specs.Labels.{label_of}
 use Rattle.jo_prog.specs.Program.{operation_at, callee_at}
 use Rattle.jo_prog.specs.Typing.{IsTypedCode, HasHeight}
 use Rattle.jo_prog.proofs.TypingPaths.{heights_same}
-use Rattle.flow_graph.specs.declared.flow.Place.{Place}
-use Rattle.flow_graph.specs.declared.flow.Place.TheVariants.{Stack}
-use Rattle.flow_graph.specs.declared.flow.NodeKind.{NodeKind}
-use Rattle.flow_graph.specs.declared.flow.NodeKind.TheVariants.{Entry, Instr, Call, RetVal, Arg, Kind}
-use Rattle.flow_graph.specs.declared.dep_nodes.EdgeKind.TheVariants.{Data, Control, Heap}
-use Rattle.flow_graph.specs.declared.dep_nodes.NodeName.{NodeName}
-use Rattle.flow_graph.specs.declared.dep_nodes.Edge.{Edge}
+use Rattle.dependence.specs.declared.flow.Place.{Place}
+use Rattle.dependence.specs.declared.flow.Place.TheVariants.{Stack}
+use Rattle.dep_nodes.specs.declared.kinds.NodeKind.{NodeKind}
+use Rattle.dep_nodes.specs.declared.kinds.NodeKind.TheVariants.{Entry, Instr, Call, RetVal, Arg, Kind}
+use Rattle.dep_nodes.specs.declared.kinds.EdgeKind.TheVariants.{Data, Control, Heap}
+use Rattle.dep_nodes.specs.declared.graphs.NodeName.{NodeName}
+use Rattle.dep_nodes.specs.declared.graphs.Edge.{Edge}
 use Rattle.flow_graph.specs.declared.sdg.Definitions.{Definitions}
 use Rattle.flow_graph.specs.declared.sdg.SourceResult.{SourceResult}
-use Rattle.flow_graph.specs.Flow.{node_at, calls_native, calls, IsFlowNode, Reads, Writes, by_instr, by_result, ArgumentPlace, of_argument, arguments_at, results_at}
-use Rattle.flow_graph.specs.Dependence.{Reaches}
-use Rattle.flow_graph.specs.Graph.{Node, node, at_entry, of_flow, of_argument as argument_node, label_at, is_source, is_sink, UsesCursor, at_result, passed, shown, next_input}
-use Rattle.flow_graph.specs.Chains.{pc_of}
-use Rattle.flow_graph.specs.GraphData.{edge}
+use Rattle.dependence.specs.Flow.{node_at, calls_native, calls, IsFlowNode, Reads, Writes, by_instr, by_result, ArgumentPlace, of_argument, arguments_at, results_at}
+use Rattle.dependence.specs.Dependence.{Reaches}
+use Rattle.dependence.specs.Graph.{Node, node, at_entry, of_flow, of_argument as argument_node, label_at, is_source, is_sink, UsesCursor, at_result, passed, shown, next_input}
+use Rattle.dependence.specs.Chains.{pc_of}
+use Rattle.dependence.specs.GraphData.{edge}
 use Rattle.flow_graph.specs.Building.{definition_of, name_of, use_edges, control_edges, heap_edges}
 use Rattle.flow_graph.proofs.PlainLine.{flow_line, flow_on}
 use Rattle.flow_graph.proofs.PlainReaching.{position, root}

@@ -11,12 +11,12 @@ use Rattle.jo_prog.specs.Program.{operation_at, callee_at}
 use Rattle.jo_prog.specs.Typing.{Shape, After, shape_at_start, leads_on, shape_after, typed_by, typed_at, Arrives, at_start, by_step, IsTypedCode}
 use Rattle.jo_prog.proofs.Decoding.{operation_at-next}
 use Rattle.jo_prog.proofs.TypingPaths.{typed_by-next}
-use Rattle.flow_graph.specs.declared.flow.Place.{Place}
-use Rattle.flow_graph.specs.declared.flow.NodeKind.{NodeKind}
-use Rattle.flow_graph.specs.declared.flow.NodeKind.TheVariants.{Entry, Exit, Instr, Call, RetVal}
-use Rattle.flow_graph.specs.Flow.{node_of, node_at, falls_through, FlowEdge, begins, skips, falls, leaves, calls, arrives, Path, stays, steps, IsFlowNode}
-use Rattle.flow_graph.specs.Dependence.{Reaches, one, more}
-use Rattle.flow_graph.specs.Chains.{pc_of}
+use Rattle.dependence.specs.declared.flow.Place.{Place}
+use Rattle.dep_nodes.specs.declared.kinds.NodeKind.{NodeKind}
+use Rattle.dep_nodes.specs.declared.kinds.NodeKind.TheVariants.{Entry, Exit, Instr, Call, RetVal}
+use Rattle.dependence.specs.Flow.{node_of, node_at, falls_through, FlowEdge, begins, skips, falls, leaves, calls, arrives, Path, stays, steps, IsFlowNode}
+use Rattle.dependence.specs.Dependence.{Reaches, one, more}
+use Rattle.dependence.specs.Chains.{pc_of}
 
 -- ---- the node at a pc
 

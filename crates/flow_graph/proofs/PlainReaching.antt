@@ -9,14 +9,14 @@ use Rattle.jo_prog.specs.declared.labels.Labels.{Labels}
 use Rattle.jo_prog.specs.Program.{operation_at}
 use Rattle.jo_prog.specs.Typing.{Shape, Arrives, IsTypedCode}
 use Rattle.jo_prog.proofs.Decoding.{operation_at-next}
-use Rattle.flow_graph.specs.declared.flow.Place.{Place}
-use Rattle.flow_graph.specs.declared.flow.NodeKind.{NodeKind}
-use Rattle.flow_graph.specs.declared.flow.NodeKind.TheVariants.{Entry, Exit, Instr, Call, RetVal, RetKind, Throw, Catch, Poll, XPoll, Arg, Param, Kind, Value, Thrown}
-use Rattle.flow_graph.specs.declared.dep_nodes.EdgeKind.{EdgeKind}
-use Rattle.flow_graph.specs.Flow.{node_of, node_at, falls_through, FlowEdge, begins, skips, falls, leaves, calls, arrives, Path, stays, steps, IsFlowNode, Writes, ArgumentPlace}
-use Rattle.flow_graph.specs.Dependence.{Reaches, one, more, Controls}
-use Rattle.flow_graph.specs.Graph.{Instance, Node, node, at_entry, IsNode, of_flow, of_argument, of_kind, of_thrown, UsesCursor, at_result, DependenceEdge, used, passed, shown, controlled, ended, next_input}
-use Rattle.flow_graph.specs.Chains.{pc_of}
+use Rattle.dependence.specs.declared.flow.Place.{Place}
+use Rattle.dep_nodes.specs.declared.kinds.NodeKind.{NodeKind}
+use Rattle.dep_nodes.specs.declared.kinds.NodeKind.TheVariants.{Entry, Exit, Instr, Call, RetVal, RetKind, Throw, Catch, Poll, XPoll, Arg, Param, Kind, Value, Thrown}
+use Rattle.dep_nodes.specs.declared.kinds.EdgeKind.{EdgeKind}
+use Rattle.dependence.specs.Flow.{node_of, node_at, falls_through, FlowEdge, begins, skips, falls, leaves, calls, arrives, Path, stays, steps, IsFlowNode, Writes, ArgumentPlace}
+use Rattle.dependence.specs.Dependence.{Reaches, one, more, Controls}
+use Rattle.dependence.specs.Graph.{Instance, Node, node, at_entry, IsNode, of_flow, of_argument, of_kind, of_thrown, UsesCursor, at_result, DependenceEdge, used, passed, shown, controlled, ended, next_input}
+use Rattle.dependence.specs.Chains.{pc_of}
 use Rattle.flow_graph.proofs.PlainLine.{node_at_step, out_of, LineAt, flow_line, flow_on, reaches_flow, IsBehind, predecessor}
 
 -- ---- places on the line

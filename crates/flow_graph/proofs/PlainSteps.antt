@@ -13,21 +13,21 @@ use Rattle.jo_prog.specs.Labels.{label_of}
 use Rattle.jo_prog.specs.Program.{operation_at, callee_at}
 use Rattle.jo_prog.specs.Typing.{IsTypedCode, HasHeight}
 use Rattle.jo_prog.proofs.TypingPaths.{heights_same}
-use Rattle.flow_graph.specs.declared.flow.Place.{Place}
-use Rattle.flow_graph.specs.declared.flow.Place.TheVariants.{Local, Stack, Pending}
-use Rattle.flow_graph.specs.declared.flow.NodeKind.{NodeKind}
-use Rattle.flow_graph.specs.declared.flow.NodeKind.TheVariants.{Entry, Exit, Instr, Call, RetVal, RetKind, Throw, Catch, Poll, XPoll, Arg, Param, Kind, Value, Thrown}
-use Rattle.flow_graph.specs.declared.dep_nodes.EdgeKind.{EdgeKind}
-use Rattle.flow_graph.specs.declared.dep_nodes.EdgeKind.TheVariants.{Data, Control, Out, Heap}
-use Rattle.flow_graph.specs.declared.dep_nodes.NodeName.{NodeName}
-use Rattle.flow_graph.specs.declared.dep_nodes.Edge.{Edge}
+use Rattle.dependence.specs.declared.flow.Place.{Place}
+use Rattle.dependence.specs.declared.flow.Place.TheVariants.{Local, Stack, Pending}
+use Rattle.dep_nodes.specs.declared.kinds.NodeKind.{NodeKind}
+use Rattle.dep_nodes.specs.declared.kinds.NodeKind.TheVariants.{Entry, Exit, Instr, Call, RetVal, RetKind, Throw, Catch, Poll, XPoll, Arg, Param, Kind, Value, Thrown}
+use Rattle.dep_nodes.specs.declared.kinds.EdgeKind.{EdgeKind}
+use Rattle.dep_nodes.specs.declared.kinds.EdgeKind.TheVariants.{Data, Control, Out, Heap}
+use Rattle.dep_nodes.specs.declared.graphs.NodeName.{NodeName}
+use Rattle.dep_nodes.specs.declared.graphs.Edge.{Edge}
 use Rattle.flow_graph.specs.declared.sdg.Definitions.{Definitions}
 use Rattle.flow_graph.specs.declared.sdg.SourceResult.{SourceResult}
-use Rattle.flow_graph.specs.Flow.{node_at, FlowEdge, stays, IsFlowNode, reads_of, writes_of, Reads, Writes, by_instr, by_result, ArgumentPlace}
-use Rattle.flow_graph.specs.Dependence.{Reaches, one, Controls}
-use Rattle.flow_graph.specs.Chains.{pc_of}
-use Rattle.flow_graph.specs.Graph.{Node, node, at_entry, IsNode, of_flow, label_at, is_source, is_sink, UsesCursor, at_result, DependenceEdge, used, passed, shown, controlled, ended, next_input}
-use Rattle.flow_graph.specs.GraphData.{edge}
+use Rattle.dependence.specs.Flow.{node_at, FlowEdge, stays, IsFlowNode, reads_of, writes_of, Reads, Writes, by_instr, by_result, ArgumentPlace}
+use Rattle.dependence.specs.Dependence.{Reaches, one, Controls}
+use Rattle.dependence.specs.Chains.{pc_of}
+use Rattle.dependence.specs.Graph.{Node, node, at_entry, IsNode, of_flow, label_at, is_source, is_sink, UsesCursor, at_result, DependenceEdge, used, passed, shown, controlled, ended, next_input}
+use Rattle.dependence.specs.GraphData.{edge}
 use Rattle.flow_graph.specs.Building.{definition_of, AreWritten, name_of, use_edges, uses_edges, out_edges, control_edges}
 use Rattle.flow_graph.proofs.PlainLine.{out_of, IsBehind, flow_line, reaches_flow}
 use Rattle.flow_graph.proofs.PlainReaching.{position, reaches_up, reaches_next, controls_entry, entry_controls, controlled_flow, root, IsKindOf, node_kind}

@@ -17,11 +17,11 @@ use Rattle.jo_prog.specs.Labels.{label_of, label_among}
 use Rattle.jo_prog.specs.Program.{operation_at, callee_at}
 use Rattle.jo_prog.specs.PlainCode.{IsLabelledNative, desc_for, calls_labelled, is_source_or_sink}
 use Rattle.jo_prog.specs.Typing.{Kind, Int, Null, Ref, Unset, Shape, After, with_stack, pop_ints, push_ints, exchange, exchange_by, loaded, stored, call_effect, call_effect_of, leads_on, shape_after, typed_by, typed_at, Arrives, at_start, by_step, IsTypedCode}
-use Rattle.flow_graph.specs.declared.flow.Place.{Place}
-use Rattle.flow_graph.specs.declared.flow.Place.TheVariants.{Local, Stack}
+use Rattle.dependence.specs.declared.flow.Place.{Place}
+use Rattle.dependence.specs.declared.flow.Place.TheVariants.{Local, Stack}
 use Rattle.flow_graph.specs.declared.sdg.Definitions.{Definitions}
-use Rattle.flow_graph.specs.Flow.{writes_of, calls_native, is_native_method, arguments_at, results_at}
-use Rattle.flow_graph.specs.Graph.{is_source, is_sink}
+use Rattle.dependence.specs.Flow.{writes_of, calls_native, is_native_method, arguments_at, results_at}
+use Rattle.dependence.specs.Graph.{is_source, is_sink}
 use Rattle.flow_graph.specs.Building.{HasPlace, height_after, is_call}
 use Rattle.flow_graph.proofs.PlainLine.{some_is}
 use Rattle.flow_graph.proofs.NodeLists.{contains_one, contains_none}

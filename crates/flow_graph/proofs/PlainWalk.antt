@@ -15,20 +15,20 @@ use Rattle.jo_prog.specs.PlainCode.{IsLabelledNative, goes_on, IsPlainFrom, IsPl
 use Rattle.jo_prog.specs.Typing.{Shape, shape_after, shape_at_start, Arrives, at_start, IsTypedCode, HasHeight}
 use Rattle.jo_prog.proofs.Decoding.{operation_at-next}
 use Rattle.jo_prog.proofs.PlainPaths.{plain-on, plain-some}
-use Rattle.flow_graph.specs.declared.flow.Place.{Place}
-use Rattle.flow_graph.specs.declared.flow.Place.TheVariants.{Local, Stack, Pending}
-use Rattle.flow_graph.specs.declared.flow.NodeKind.{NodeKind}
-use Rattle.flow_graph.specs.declared.flow.NodeKind.TheVariants.{Entry, Exit, Instr, Call, RetVal, RetKind, Throw, Catch, Poll, XPoll, Arg, Param, Kind, Value, Thrown}
-use Rattle.flow_graph.specs.declared.dep_nodes.EdgeKind.{EdgeKind}
-use Rattle.flow_graph.specs.declared.dep_nodes.NodeName.{NodeName}
-use Rattle.flow_graph.specs.declared.dep_nodes.Edge.{Edge}
+use Rattle.dependence.specs.declared.flow.Place.{Place}
+use Rattle.dependence.specs.declared.flow.Place.TheVariants.{Local, Stack, Pending}
+use Rattle.dep_nodes.specs.declared.kinds.NodeKind.{NodeKind}
+use Rattle.dep_nodes.specs.declared.kinds.NodeKind.TheVariants.{Entry, Exit, Instr, Call, RetVal, RetKind, Throw, Catch, Poll, XPoll, Arg, Param, Kind, Value, Thrown}
+use Rattle.dep_nodes.specs.declared.kinds.EdgeKind.{EdgeKind}
+use Rattle.dep_nodes.specs.declared.graphs.NodeName.{NodeName}
+use Rattle.dep_nodes.specs.declared.graphs.Edge.{Edge}
 use Rattle.flow_graph.specs.declared.sdg.Definitions.{Definitions}
 use Rattle.flow_graph.specs.declared.sdg.SourceResult.{SourceResult}
 use Rattle.flow_graph.specs.declared.sdg.Builder.{Builder}
-use Rattle.flow_graph.specs.Flow.{node_of, node_at, falls_through, FlowEdge, begins, skips, falls, leaves, calls, arrives, Path, stays, steps, IsFlowNode, writes_of, Reads, Writes, by_instr, by_result}
-use Rattle.flow_graph.specs.Dependence.{Reaches, one, more}
-use Rattle.flow_graph.specs.Graph.{Node, node, at_entry, IsNode, of_flow, of_kind, of_thrown, is_source, is_sink, UsesCursor, at_result, DependenceEdge, used, passed, shown, controlled, ended, next_input}
-use Rattle.flow_graph.specs.GraphData.{IsDependenceGraph}
+use Rattle.dependence.specs.Flow.{node_of, node_at, falls_through, FlowEdge, begins, skips, falls, leaves, calls, arrives, Path, stays, steps, IsFlowNode, writes_of, Reads, Writes, by_instr, by_result}
+use Rattle.dependence.specs.Dependence.{Reaches, one, more}
+use Rattle.dependence.specs.Graph.{Node, node, at_entry, IsNode, of_flow, of_kind, of_thrown, is_source, is_sink, UsesCursor, at_result, DependenceEdge, used, passed, shown, controlled, ended, next_input}
+use Rattle.dependence.specs.GraphData.{IsDependenceGraph}
 use Rattle.flow_graph.specs.Building.{definition_of, HasPlace, name_of, start_nodes, IsStart, is_call, is_return, height_after, AddsInstruction, AddsSource, AddsSink}
 use Rattle.flow_graph.proofs.PlainLine.{node_at_one, node_at_step, out_of, flow_line, flow_on, IsBehind, between, behind_next}
 use Rattle.flow_graph.proofs.PlainReaching.{position, no_write_at_call, root, IsKindOf, node_kind, node_placed, edge_from, edge_to, controlled_flow}

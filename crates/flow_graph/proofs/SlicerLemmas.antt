@@ -4,14 +4,14 @@ use Rattle.std.proofs.lemmas.Bool.{cases_eq, cases_lt, true≢false, false≢tru
 use Rattle.std.proofs.lemmas.List.Sums.{count_by-le-length, sum_by-set}
 use Rattle.std.proofs.lemmas.List.{get_or_past}
 use Rattle.std.proofs.lemmas.List.Elements.{Contains-push, Contains-push_cases, Contains-append_left}
-use Rattle.flow_graph.specs.declared.dep_nodes.EdgeKind.{EdgeKind}
-use Rattle.flow_graph.specs.declared.dep_nodes.Edge.{Edge}
-use Rattle.flow_graph.specs.declared.dep_nodes.Step.{Step}
-use Rattle.flow_graph.specs.declared.dep_nodes.Word.TheVariants.{Edge as AnEdge}
-use Rattle.flow_graph.specs.declared.dep_nodes.Graph.{Graph}
+use Rattle.dep_nodes.specs.declared.kinds.EdgeKind.{EdgeKind}
+use Rattle.dep_nodes.specs.declared.graphs.Edge.{Edge}
+use Rattle.dep_nodes.specs.declared.chains.Step.{Step}
+use Rattle.dep_nodes.specs.declared.chains.Word.TheVariants.{Edge as AnEdge}
+use Rattle.dep_nodes.specs.declared.graphs.Graph.{Graph}
 use Rattle.flow_graph.specs.declared.slicer.Mark.{Mark}
 use Rattle.flow_graph.specs.declared.slicer.Mark.TheVariants.{Unmarked, Criterion, Next}
-use Rattle.flow_graph.specs.GraphData.{edge, IsWalk, WalksTo, walk_end}
+use Rattle.dependence.specs.GraphData.{edge, IsWalk, WalksTo, walk_end}
 use Rattle.flow_graph.specs.Slices.{mark_at, is_marked, IsMarkedAt, distance_of, LeadsOn, IsStepFrom, is_unmarked, unmarked_count, IsMarking, OnlyGrows, IsClosedAt, AreMarkedAs, HasNoStep}
 
 -- ---- one more mark

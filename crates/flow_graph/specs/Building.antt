@@ -5,18 +5,18 @@ use Rattle.jo_prog.specs.declared.operations.Operation.TheVariants.{Constant, Lo
 use Rattle.jo_prog.specs.declared.program.Program.{Program}
 use Rattle.jo_prog.specs.declared.program.Code.{Code}
 use Rattle.jo_prog.specs.Program.{code_at}
-use Rattle.flow_graph.specs.declared.flow.Place.{Place}
-use Rattle.flow_graph.specs.declared.flow.Place.TheVariants.{Local, Stack, Pending}
-use Rattle.flow_graph.specs.declared.flow.NodeKind.{NodeKind}
-use Rattle.flow_graph.specs.declared.dep_nodes.EdgeKind.TheVariants.{Data, Control, Out, Heap}
-use Rattle.flow_graph.specs.declared.dep_nodes.NodeName.{NodeName}
-use Rattle.flow_graph.specs.declared.dep_nodes.Edge.{Edge}
+use Rattle.dependence.specs.declared.flow.Place.{Place}
+use Rattle.dependence.specs.declared.flow.Place.TheVariants.{Local, Stack, Pending}
+use Rattle.dep_nodes.specs.declared.kinds.NodeKind.{NodeKind}
+use Rattle.dep_nodes.specs.declared.kinds.EdgeKind.TheVariants.{Data, Control, Out, Heap}
+use Rattle.dep_nodes.specs.declared.graphs.NodeName.{NodeName}
+use Rattle.dep_nodes.specs.declared.graphs.Edge.{Edge}
 use Rattle.flow_graph.specs.declared.sdg.Definitions.{Definitions}
 use Rattle.flow_graph.specs.declared.sdg.SourceResult.{SourceResult}
 use Rattle.flow_graph.specs.declared.sdg.Builder.{Builder}
-use Rattle.flow_graph.specs.Flow.{reads_of, writes_of}
-use Rattle.flow_graph.specs.declared.flow.NodeKind.TheVariants.{Entry, Exit, Instr, Call, RetVal, Arg, Kind, Thrown}
-use Rattle.flow_graph.specs.GraphData.{edge}
+use Rattle.dependence.specs.Flow.{reads_of, writes_of}
+use Rattle.dep_nodes.specs.declared.kinds.NodeKind.TheVariants.{Entry, Exit, Instr, Call, RetVal, Arg, Kind, Thrown}
+use Rattle.dependence.specs.GraphData.{edge}
 
 -- the number of the node that wrote a place last
 abbrev pub definition_of : Definitions → Place → Option ℕ

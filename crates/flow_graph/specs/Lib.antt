@@ -1,7 +1,2 @@
-pub mod Flow
-pub mod Dependence
-pub mod Graph
-pub mod Chains
-pub mod GraphData
 pub mod Slices
 pub mod Building

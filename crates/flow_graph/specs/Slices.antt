@@ -1,14 +1,14 @@
 -- What a slicer has marked: each marked node leads on, by its mark, to a node that is marked too and nearer to a criterion.
 use Rattle.std.specs.Prelude.{◌≡◌, ◌↔◌, ℕ, ◌+◌, ◌<◌, Bool, true, false, not, List, length, Contains, slice_index_or, slice_get, Some, count_by}
-use Rattle.flow_graph.specs.declared.dep_nodes.EdgeKind.{EdgeKind}
-use Rattle.flow_graph.specs.declared.dep_nodes.Edge.{Edge}
-use Rattle.flow_graph.specs.declared.dep_nodes.Step.{Step}
-use Rattle.flow_graph.specs.declared.dep_nodes.Word.TheVariants.{Edge as AnEdge}
-use Rattle.flow_graph.specs.declared.dep_nodes.Graph.{Graph}
+use Rattle.dep_nodes.specs.declared.kinds.EdgeKind.{EdgeKind}
+use Rattle.dep_nodes.specs.declared.graphs.Edge.{Edge}
+use Rattle.dep_nodes.specs.declared.chains.Step.{Step}
+use Rattle.dep_nodes.specs.declared.chains.Word.TheVariants.{Edge as AnEdge}
+use Rattle.dep_nodes.specs.declared.graphs.Graph.{Graph}
 use Rattle.flow_graph.specs.declared.slicer.Mark.{Mark}
 use Rattle.flow_graph.specs.declared.slicer.Mark.TheVariants.{Unmarked, Criterion, Next}
 use Rattle.flow_graph.specs.declared.slicer.Slicer.{Slicer}
-use Rattle.flow_graph.specs.GraphData.{edge, WalksTo}
+use Rattle.dependence.specs.GraphData.{edge, WalksTo}
 
 -- the mark of a node; a number that is none of a node has none
 abbrev pub mark_at : List Mark → ℕ → Mark

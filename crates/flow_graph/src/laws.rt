@@ -2,11 +2,11 @@
 ghost use Rattle.std.specs.Prelude.{◌≡◌, ◌↔◌, ℕ, List as Items, [], ◌∷◌};
 ghost use Rattle.jo_prog.specs.declared.program.Program.{Program};
 ghost use Rattle.jo_prog.specs.declared.labels.Labels.{Labels};
-ghost use Rattle.flow_graph.specs.declared.dep_nodes.Step.{Step};
-ghost use Rattle.flow_graph.specs.declared.dep_nodes.Graph.{Graph};
-ghost use Rattle.flow_graph.specs.Graph.{Node};
-ghost use Rattle.flow_graph.specs.Chains.{IsValidChain, HasChain, end_of};
-ghost use Rattle.flow_graph.specs.GraphData.{graph_node, IsDependenceGraph, IsWalk, walk_end, WalksTo, links_of};
+ghost use Rattle.dep_nodes.specs.declared.chains.Step.{Step};
+ghost use Rattle.dep_nodes.specs.declared.graphs.Graph.{Graph};
+ghost use Rattle.dependence.specs.Graph.{Node};
+ghost use Rattle.dependence.specs.Chains.{IsValidChain, HasChain, end_of};
+ghost use Rattle.dependence.specs.GraphData.{graph_node, IsDependenceGraph, IsWalk, walk_end, WalksTo, links_of};
 ghost use Rattle.flow_graph.specs.Slices.{HasEdgesInside};
 
 /// A valid chain leads from one node to another exactly where a walk of the graph does.

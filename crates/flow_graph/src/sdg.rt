@@ -1,17 +1,17 @@
 //! Builds the dependence graph of a program of plain code, by one walk over its line of instructions.
 ghost use Rattle.std.specs.Prelude.{◌≡◌, ◌≢◌, ℕ, ◌+◌, ◌-◌, ◌*◌, ◌<◌, ◌≤◌, ◌^◌, List as Items, [], ◌∷◌, ◌++◌, length, Contains, IfOk, OnOk, true, replicate, slice_index_or};
-ghost use Rattle.flow_graph.specs.Flow.{reads_of, writes_of};
-ghost use Rattle.flow_graph.specs.declared.flow.Place.{Place as APlace};
+ghost use Rattle.dependence.specs.Flow.{reads_of, writes_of};
+ghost use Rattle.dependence.specs.declared.flow.Place.{Place as APlace};
 ghost use Rattle.jo_prog.specs.declared.program.Code.{Code};
 ghost use Rattle.jo_prog.specs.Program.{code_at};
 ghost use Rattle.jo_prog.specs.Labels.{label_of};
-ghost use Rattle.flow_graph.specs.Graph.{is_source, is_sink};
+ghost use Rattle.dependence.specs.Graph.{is_source, is_sink};
 ghost use Rattle.jo_prog.specs.PlainCode.{IsPlainProgram};
-ghost use Rattle.flow_graph.specs.GraphData.{edge, IsDependenceGraph};
+ghost use Rattle.dependence.specs.GraphData.{edge, IsDependenceGraph};
 ghost use Rattle.flow_graph.specs.Building.{definition_of, HasPlace, SameSizes, AreWritten, name_of, use_edges, uses_edges, out_edges, control_edges, heap_edges, AddsInstruction, AddsSource, AddsSink, height_after, is_call, is_return, IsStart, HasShortCode};
 
-use crate::dep_nodes::{Edge, EdgeKind, Graph, NodeName, SiteList};
-use crate::flow::{NodeKind, Place};
+use dep_nodes::{Edge, EdgeKind, Graph, NodeKind, NodeName, SiteList};
+use dependence::flow::Place;
 use jo_ids::{List, Memory, MethodId, NodeId, SiteId};
 use jo_prog::labels::{Label, Labels, label_of};
 use jo_prog::operations::Operation;

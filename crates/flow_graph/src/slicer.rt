@@ -1,11 +1,11 @@
 //! Walks of a graph to its criteria, found backwards along its edges.
 ghost use Rattle.std.specs.Prelude.{◌≡◌, ◌↔◌, ◌+◌, ◌++◌, ◌∷◌, [], OnOk, ◌<◌, ◌^◌, ℕ, List as Items, length, replicate, Contains, IsTrue, IfOk, IfSome, IfNone, true, false, slice_get, slice_index};
 ghost use Rattle.std.specs.Bool.{OnFalse, OnTrue};
-ghost use Rattle.flow_graph.specs.declared.dep_nodes.Edge.{Edge as AnEdge};
-ghost use Rattle.flow_graph.specs.GraphData.{IsWalk, WalksTo, walk_end};
+ghost use Rattle.dep_nodes.specs.declared.graphs.Edge.{Edge as AnEdge};
+ghost use Rattle.dependence.specs.GraphData.{IsWalk, WalksTo, walk_end};
 ghost use Rattle.flow_graph.specs.Slices.{mark_at, is_marked, IsMarkedAt, distance_of, unmarked_count, IsMarking, OnlyGrows, IsClosedAt, HasEdgesInside, AreInside, HasNoStep, AreMarkedAs, FitsGraph, IsMarked, IsSliceOf, IsFirstWith};
 
-use crate::dep_nodes::{Chain, Edge, Graph, Step, Word};
+use dep_nodes::{Chain, Edge, Graph, Step, Word};
 use jo_ids::{List, Memory, NodeId};
 use std::alloc::{AllocError, Global};
 

@@ -2,11 +2,10 @@
 //! a low one and `show` a low sink, and two walks in it.
 ghost use Rattle.std.specs.Prelude.{◌≡◌, ◌<◌, ◌^◌, ◌++◌, ◌∷◌, [], ℕ, length, IfOk, IfSome, OnOk, Contains, slice_get, Some, codes, replicate};
 ghost use Rattle.jo_prog.specs.Worked.{native, member, worked_code, worked_class, worked_program, worked_labels};
-ghost use Rattle.jo_prog.specs.Linking.{object_class};
+ghost use Rattle.jo_prog.specs.PreludeClasses.{object_class};
 ghost use Rattle.flow_graph.specs.Slices.{HasEdgesInside};
 
-use crate::dep_nodes::Graph;
-use crate::flow::NodeKind;
+use dep_nodes::{Graph, NodeKind};
 use crate::sdg::build;
 use crate::slicer::find_walk;
 use jo_ids::{ClassId, LevelId, List, Memory, MethodId, NodeId};

@@ -9,7 +9,7 @@ use Rattle.toml.specs.Data.{Data, Items, no_items, item, as_array, as_str}
 use Rattle.class_pool.specs.ClassOrder.{has_flag, static_flag}
 use Rattle.jo_prog.specs.declared.program.Program.{Program}
 use Rattle.jo_prog.specs.declared.program.Method.{Method}
-use Rattle.jo_prog.specs.Linking.{count_from}
+use Rattle.jo_prog.specs.Numbers.{count_from}
 use Rattle.jo_prog.specs.Program.{method_at}
 use Rattle.jo_prog.specs.PlainCode.{IsEntry}
 use Rattle.jo_policy.specs.PolicyFile.{place_from, level_named, pair_of, pairs_of, flows_of, is_entry, entry_with, entry_of, spellings_of, method_named}

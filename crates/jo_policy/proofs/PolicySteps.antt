@@ -3,7 +3,7 @@ use Rattle.std.proofs.Common.{◌≡◌, ℕ, ◌+◌, ◌-◌, ◌<◌, suc, tr
 use Rattle.toml.specs.Data.{Members, get_member}
 use Rattle.jo_prog.specs.declared.labels.Label.{Label}
 use Rattle.jo_prog.specs.declared.program.Program.{Program}
-use Rattle.jo_prog.specs.Linking.{count_from}
+use Rattle.jo_prog.specs.Numbers.{count_from}
 use Rattle.jo_policy.specs.PolicyFile.{keys_are_known, levels_of, flows_of, entry_of, table_of, labelled_of, spellings_of, labels_with, labels_from, labels_by, policy_of}
 
 pub policy_of-unknown : (tree : Members) (program : Program) → keys_are_known tree ≡ false → None ≡ policy_of tree program

@@ -11,7 +11,7 @@ use Rattle.jo_prog.specs.declared.labels.Label.TheVariants.{Source, Sink}
 use Rattle.jo_prog.specs.declared.labels.Labels.{Labels}
 use Rattle.jo_prog.specs.declared.program.Program.{Program}
 use Rattle.jo_prog.specs.declared.program.Method.{Method}
-use Rattle.jo_prog.specs.Linking.{count_from}
+use Rattle.jo_prog.specs.Numbers.{count_from}
 use Rattle.jo_prog.specs.Program.{method_at}
 use Rattle.jo_prog.specs.Labels.{label_among}
 use Rattle.jo_prog.specs.PlainCode.{desc_for}

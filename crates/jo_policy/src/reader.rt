@@ -7,7 +7,7 @@ ghost use Rattle.toml.specs.View.{view, items_view, table_view};
 ghost use Rattle.toml.specs.Parse.{parse_document};
 ghost use Rattle.class_pool.specs.ClassOrder.{has_flag as is_set};
 ghost use Rattle.jo_prog.specs.Labels.{label_among as first_label_of};
-ghost use Rattle.jo_prog.specs.Linking.{count_from};
+ghost use Rattle.jo_prog.specs.Numbers.{count_from};
 ghost use Rattle.jo_prog.specs.PlainCode.{desc_for as shape_of, IsWellLabelled};
 ghost use Rattle.jo_prog.specs.Program.{method_at};
 ghost use Rattle.jo_policy.specs.PolicyFile.{known_keys, keys_are_known as all_known, texts_in, are_few_levels as are_few, levels_of, place_from, level_named as named_level, pair_of, pairs_of, flows_of, spellings_of, is_entry as can_enter, entry_with, entry_of, table_of, labels_are_good as all_good, are_apart as all_apart, label_in as label_by, label_for as label_given, labelled_from, fits_label as fits_it, labels_fit_from, labelled_of, labels_with, policy_of};

@@ -1,7 +1,8 @@
 pub mod Labels
 pub mod Operations
 pub mod Program
-pub mod Linking
+pub mod Numbers
+pub mod PreludeClasses
 pub mod Typing
 pub mod Values
 pub mod Machine

@@ -12,7 +12,7 @@ use Rattle.jo_prog.specs.declared.program.Operand.{Operand}
 use Rattle.jo_prog.specs.declared.program.Operand.TheVariants.{Unused, Member}
 use Rattle.jo_prog.specs.declared.program.TypeRef.TheVariants.{Class as OfClass}
 use Rattle.jo_prog.specs.declared.runs.SourceInput.{SourceInput}
-use Rattle.jo_prog.specs.Linking.{object_class}
+use Rattle.jo_prog.specs.PreludeClasses.{object_class}
 
 -- 0 invokestatic get, 3 istore_0, 4 invokestatic secret, 7 istore_1, 8 iload_0, 9 iconst_1, 10 iadd, 11 invokestatic show, 14 return
 abbrev pub worked_code : Code

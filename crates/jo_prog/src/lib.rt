@@ -4,7 +4,7 @@
 pub mod jvm_typing;
 pub mod labels;
 pub mod laws;
-pub mod linker;
+pub mod lists;
 pub mod operations;
 pub mod program;
 pub mod runner;

@@ -10,7 +10,7 @@ ghost use Rattle.jo_prog.specs.Runs.{unmoved, advanced, run};
 ghost use Rattle.jo_prog.specs.Running.{state_of, quiet, executed, called_by};
 
 use crate::labels::{Label, Labels, label_of};
-use crate::linker::add;
+use crate::lists::add;
 use crate::operations::Operation;
 use crate::program::{Program, callee_of, code_at, operation_in};
 use crate::runs::{Event, Inputs, SourceInput, Trace};

@@ -8,7 +8,7 @@ use Rattle.jo_prog.specs.declared.program.Code.{Code}
 use Rattle.jo_prog.specs.Program.{code_at}
 use Rattle.jo_prog.specs.PlainCode.{IsPlainFrom}
 use Rattle.jo_prog.specs.Typing.{IsTyped}
-use Rattle.jo_prog.specs.Linking.{program_of}
+use Rattle.linker.specs.Linking.{program_of}
 use Rattle.jo_prog.specs.declared.program.Program.{Program}
 use Rattle.jo_prog.specs.declared.labels.Labels.{Labels}
 use Rattle.low_run.specs.Verdict.{CleanForAll, Reports}

@@ -13,7 +13,8 @@ use Rattle.jo_prog.specs.declared.program.Program.{Program}
 use Rattle.jo_prog.specs.declared.program.Method.{Method}
 use Rattle.jo_prog.specs.declared.labels.Labels.{Labels}
 use Rattle.jo_prog.specs.Program.{method_at}
-use Rattle.jo_prog.specs.Linking.{program_of, this_name, super_name, object_name, prelude_names}
+use Rattle.linker.specs.Linking.{program_of, this_name, super_name}
+use Rattle.jo_prog.specs.PreludeClasses.{object_name, prelude_names}
 use Rattle.jo_prog.specs.PlainCode.{IsPlainProgram}
 use Rattle.jo_policy.specs.PolicyFile.{policy_of}
 use Rattle.joana_top.specs.Files.{CheckFiles, check_classes}

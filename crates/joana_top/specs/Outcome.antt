@@ -8,8 +8,8 @@ use Rattle.class_pool.specs.ClassGrammar.{IsClass}
 use Rattle.class_dis.specs.Listing.{listing_of}
 use Rattle.jo_prog.specs.declared.program.Program.{Program}
 use Rattle.jo_prog.specs.declared.labels.Labels.{Labels}
-use Rattle.flow_graph.specs.Graph.{Node}
-use Rattle.flow_graph.specs.Chains.{Link}
+use Rattle.dependence.specs.Graph.{Node}
+use Rattle.dependence.specs.Chains.{Link}
 use Rattle.chain_report.specs.Report.{chain_text}
 use Rattle.low_run.specs.Verdict.{CleanForAll, Reports}
 use Rattle.low_run.specs.Security.{Secure}

@@ -15,7 +15,8 @@ use jo_ids::MethodId;
 use jo_policy::read_policy;
 use jo_prog::labels::Labels;
 use jo_prog::program::{Method, Program};
-use jo_prog::{jvm_typing, linker};
+use jo_prog::jvm_typing;
+use linker::link;
 use low_run::refusal;
 use std::alloc::{AllocError as Memory, Global};
 
@@ -133,7 +134,7 @@ fn program_of(alloc: Global, class: &ClassFile) -> Result<Option<Program>, Memor
     if !is_under_object(class) {
         return Ok(None);
     }
-    match linker::link(alloc, class) {
+    match link(alloc, class) {
         Ok(program) => Ok(Some(program)),
         Err(memory) => Err(memory),
     }

@@ -2,13 +2,12 @@
 use crate::tests::MAIN;
 use chain_report::nodes::push_node;
 use class_read::read_class;
-use flow_graph::dep_nodes::{NodeName, SiteList};
-use flow_graph::flow::NodeKind;
+use dep_nodes::{NodeKind, NodeName, SiteList};
 use jo_ids::{Id, List, Memory, MethodId};
 use jo_policy::read_policy;
 use jo_prog::jvm_typing::{is_plain, is_typed};
 use jo_prog::labels::{Label, Labels};
-use jo_prog::linker::link;
+use linker::link;
 use jo_prog::program::Program;
 use jo_prog::runner::run;
 use jo_prog::runs::{Event, Inputs, SourceInput, Trace};

@@ -21,12 +21,12 @@ use Rattle.jo_prog.specs.Running.{with_thread}
 use Rattle.jo_prog.specs.Typing.{Kind, Int, Shape, with_stack, exchange_by, Arrives, IsTypedCode, HasHeight}
 use Rattle.jo_prog.specs.Values.{Value, int, Info}
 use Rattle.jo_prog.specs.Machine.{State, Stepped, info_at, execute, silent, input_at, called, after_call, call_native, step_operation, step}
-use Rattle.flow_graph.specs.declared.flow.Place.{Place}
-use Rattle.flow_graph.specs.declared.flow.Place.TheVariants.{Local, Stack}
-use Rattle.flow_graph.specs.declared.flow.NodeKind.{NodeKind}
-use Rattle.flow_graph.specs.declared.flow.NodeKind.TheVariants.{Entry, Instr, Call, RetVal, Arg}
-use Rattle.flow_graph.specs.Flow.{node_of, node_at, falls_through, FlowEdge, falls, calls, arrives as arrives_at, IsFlowNode, Writes, by_instr, by_result, ArgumentPlace, of_argument}
-use Rattle.flow_graph.specs.Graph.{node, at_entry, UsesCursor, at_result, label_at, is_source, is_sink, shown}
+use Rattle.dependence.specs.declared.flow.Place.{Place}
+use Rattle.dependence.specs.declared.flow.Place.TheVariants.{Local, Stack}
+use Rattle.dep_nodes.specs.declared.kinds.NodeKind.{NodeKind}
+use Rattle.dep_nodes.specs.declared.kinds.NodeKind.TheVariants.{Entry, Instr, Call, RetVal, Arg}
+use Rattle.dependence.specs.Flow.{node_of, node_at, falls_through, FlowEdge, falls, calls, arrives as arrives_at, IsFlowNode, Writes, by_instr, by_result, ArgumentPlace, of_argument}
+use Rattle.dependence.specs.Graph.{node, at_entry, UsesCursor, at_result, label_at, is_source, is_sink, shown}
 use Rattle.flow_graph.proofs.PlainCalls.{result_place}
 use Rattle.flow_graph.proofs.PlainLine.{flow_on}
 use Rattle.flow_graph.proofs.PlainReaching.{root, no_write_at_call}

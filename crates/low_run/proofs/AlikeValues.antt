@@ -11,9 +11,9 @@ use Rattle.jo_prog.specs.declared.program.Program.{Program}
 use Rattle.jo_prog.specs.Typing.{Kind, Int, Null, Ref, Unset, Shape, with_stack, exchange, loaded, stored, shape_after}
 use Rattle.jo_prog.specs.Values.{Value, int, Info}
 use Rattle.jo_prog.specs.Machine.{Frame, popped, fetched, fetched_local, execute}
-use Rattle.flow_graph.specs.declared.flow.Place.{Place}
-use Rattle.flow_graph.specs.declared.flow.Place.TheVariants.{Local, Stack}
-use Rattle.flow_graph.specs.Flow.{falls_through, reads_of, writes_of}
+use Rattle.dependence.specs.declared.flow.Place.{Place}
+use Rattle.dependence.specs.declared.flow.Place.TheVariants.{Local, Stack}
+use Rattle.dependence.specs.Flow.{falls_through, reads_of, writes_of}
 use Rattle.flow_graph.proofs.NodeLists.{contains_one, contains_first}
 
 -- two stacks with ints alone, their tops first, equal where they are needed

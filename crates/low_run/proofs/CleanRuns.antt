@@ -22,10 +22,10 @@ use Rattle.jo_prog.specs.Runs.{unmoved, advanced, with_event, run_from, seen, si
 use Rattle.jo_prog.specs.Typing.{Int, Unset, shape_at_start, at_start, IsTypedCode}
 use Rattle.jo_prog.specs.Values.{Value}
 use Rattle.jo_prog.specs.Machine.{Frame, State, Stepped, step, first_frame, start}
-use Rattle.flow_graph.specs.declared.flow.NodeKind.{NodeKind}
-use Rattle.flow_graph.specs.declared.flow.NodeKind.TheVariants.{Entry, Call, RetVal}
-use Rattle.flow_graph.specs.Flow.{node_at, begins, stays, steps, IsFlowNode}
-use Rattle.flow_graph.specs.Graph.{node, at_entry, label_at}
+use Rattle.dep_nodes.specs.declared.kinds.NodeKind.{NodeKind}
+use Rattle.dep_nodes.specs.declared.kinds.NodeKind.TheVariants.{Entry, Call, RetVal}
+use Rattle.dependence.specs.Flow.{node_at, begins, stays, steps, IsFlowNode}
+use Rattle.dependence.specs.Graph.{node, at_entry, label_at}
 use Rattle.flow_graph.proofs.PlainReaching.{root}
 use Rattle.flow_graph.proofs.PlainSteps.{cursor_callee, cursor_flow}
 use Rattle.low_run.specs.Verdict.{CleanForAll}

@@ -7,7 +7,7 @@ use Rattle.jo_prog.specs.declared.runs.SourceInput.{SourceInput}
 use Rattle.jo_prog.specs.PlainCode.{IsPlainProgram}
 use Rattle.jo_prog.specs.Runs.{advanced, enabled}
 use Rattle.jo_prog.specs.Machine.{State, Stepped, step}
-use Rattle.flow_graph.specs.declared.flow.NodeKind.{NodeKind}
+use Rattle.dep_nodes.specs.declared.kinds.NodeKind.{NodeKind}
 use Rattle.flow_graph.proofs.NodeLists.{contains_one, contains_none}
 use Rattle.low_run.specs.RunStates.{IsState, at_start, goes_on}
 use Rattle.low_run.proofs.AlikeRuns.{Together, over, stand, both_step}

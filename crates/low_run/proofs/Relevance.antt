@@ -5,15 +5,15 @@ use Rattle.std.proofs.lemmas.Bool.{false≢true}
 use Rattle.jo_prog.specs.declared.labels.Labels.{Labels}
 use Rattle.jo_prog.specs.declared.program.Program.{Program}
 use Rattle.jo_prog.specs.Labels.{flows, reaches, misses}
-use Rattle.flow_graph.specs.declared.flow.Place.{Place}
-use Rattle.flow_graph.specs.declared.flow.NodeKind.{NodeKind}
-use Rattle.flow_graph.specs.declared.flow.NodeKind.TheVariants.{Call, Arg}
-use Rattle.flow_graph.specs.declared.dep_nodes.EdgeKind.{EdgeKind}
-use Rattle.flow_graph.specs.declared.dep_nodes.EdgeKind.TheVariants.{Data, Control, Out, Arg as ArgEdge, Call as CallEdge, Ret, Heap, Fork}
-use Rattle.flow_graph.specs.Flow.{FlowEdge, IsFlowNode, Reads, Writes, ArgumentPlace}
-use Rattle.flow_graph.specs.Dependence.{Reaches, one, more}
-use Rattle.flow_graph.specs.Graph.{Node, node, at_entry, DependenceEdge, used, passed as passed_edge}
-use Rattle.flow_graph.specs.Chains.{CallSite, Link, open_after, IsChainFrom, end_of}
+use Rattle.dependence.specs.declared.flow.Place.{Place}
+use Rattle.dep_nodes.specs.declared.kinds.NodeKind.{NodeKind}
+use Rattle.dep_nodes.specs.declared.kinds.NodeKind.TheVariants.{Call, Arg}
+use Rattle.dep_nodes.specs.declared.kinds.EdgeKind.{EdgeKind}
+use Rattle.dep_nodes.specs.declared.kinds.EdgeKind.TheVariants.{Data, Control, Out, Arg as ArgEdge, Call as CallEdge, Ret, Heap, Fork}
+use Rattle.dependence.specs.Flow.{FlowEdge, IsFlowNode, Reads, Writes, ArgumentPlace}
+use Rattle.dependence.specs.Dependence.{Reaches, one, more}
+use Rattle.dependence.specs.Graph.{Node, node, at_entry, DependenceEdge, used, passed as passed_edge}
+use Rattle.dependence.specs.Chains.{CallSite, Link, open_after, IsChainFrom, end_of}
 use Rattle.flow_graph.proofs.PlainReaching.{root}
 use Rattle.low_run.specs.Verdict.{IsHidden, IsObserved, Clean}
 

@@ -7,17 +7,17 @@ use Rattle.jo_prog.specs.declared.labels.Labels.{Labels}
 use Rattle.jo_prog.specs.declared.program.Program.{Program}
 use Rattle.jo_prog.specs.Labels.{label_of, reaches, misses, shown_at, brings, lets_out}
 use Rattle.jo_prog.specs.Program.{callee_at, operation_at}
-use Rattle.flow_graph.specs.declared.flow.NodeKind.{NodeKind}
-use Rattle.flow_graph.specs.declared.flow.NodeKind.TheVariants.{Entry, Call, RetVal, Arg}
-use Rattle.flow_graph.specs.declared.dep_nodes.NodeName.{NodeName}
-use Rattle.flow_graph.specs.declared.dep_nodes.Graph.{Graph}
-use Rattle.flow_graph.specs.declared.dep_nodes.Chain.{Chain}
+use Rattle.dep_nodes.specs.declared.kinds.NodeKind.{NodeKind}
+use Rattle.dep_nodes.specs.declared.kinds.NodeKind.TheVariants.{Entry, Call, RetVal, Arg}
+use Rattle.dep_nodes.specs.declared.graphs.NodeName.{NodeName}
+use Rattle.dep_nodes.specs.declared.graphs.Graph.{Graph}
+use Rattle.dep_nodes.specs.declared.chains.Chain.{Chain}
 use Rattle.jo_prog.specs.declared.operations.Operation.{Operation}
 use Rattle.jo_prog.specs.declared.operations.Operation.TheVariants.{Constant, Load, Store, Add, Subtract, InvokeStatic, Return, Other}
-use Rattle.flow_graph.specs.Flow.{IsFlowNode, FlowEdge, begins, skips, falls, leaves, calls, arrives, Path, stays, steps, node_at, node_of}
-use Rattle.flow_graph.specs.Graph.{Instance, Node, node, IsNode, of_flow, of_argument, of_kind, of_thrown, IsReached, label_at}
-use Rattle.flow_graph.specs.Chains.{end_of}
-use Rattle.flow_graph.specs.GraphData.{graph_node, node_named, resolved_of, links_of, walk_end, WalksTo, IsDependenceGraph}
+use Rattle.dependence.specs.Flow.{IsFlowNode, FlowEdge, begins, skips, falls, leaves, calls, arrives, Path, stays, steps, node_at, node_of}
+use Rattle.dependence.specs.Graph.{Instance, Node, node, IsNode, of_flow, of_argument, of_kind, of_thrown, IsReached, label_at}
+use Rattle.dependence.specs.Chains.{end_of}
+use Rattle.dependence.specs.GraphData.{graph_node, node_named, resolved_of, links_of, walk_end, WalksTo, IsDependenceGraph}
 use Rattle.flow_graph.specs.Slices.{HasEdgesInside}
 use Rattle.flow_graph.proofs.ChainWalks.{walk_is_valid, walk_ends, chain_is_walk}
 use Rattle.low_run.specs.Verdict.{IsHidden, result, IsObserved, call, let_out, IllegalChain, Clean}

@@ -2,7 +2,7 @@
 use Rattle.std.specs.Prelude.{[], ◌∷◌, Some, codes}
 use Rattle.jo_prog.specs.declared.program.Program.{Program}
 use Rattle.jo_prog.specs.declared.program.Code.{Code}
-use Rattle.jo_prog.specs.Linking.{object_class}
+use Rattle.jo_prog.specs.PreludeClasses.{object_class}
 use Rattle.jo_prog.specs.Worked.{native, worked_class}
 
 -- 0 invokestatic get, 3 istore_0, 4 invokestatic secret, 7 istore_1, 8 iload_1, 9 iconst_1, 10 iadd, 11 invokestatic show, 14 return

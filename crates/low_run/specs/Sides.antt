@@ -4,12 +4,12 @@ use Rattle.std.specs.Prelude.{ℕ, suc, Bool, false, ◌==◌, ◌&&◌, if◌th
 use Rattle.jo_prog.specs.declared.labels.Label.{Label}
 use Rattle.jo_prog.specs.declared.labels.Labels.{Labels}
 use Rattle.jo_prog.specs.Labels.{label_of, reaches, misses, shown_at, brings, lets_out}
-use Rattle.flow_graph.specs.declared.flow.NodeKind.{NodeKind}
-use Rattle.flow_graph.specs.declared.flow.NodeKind.TheVariants.{Call, RetVal, Arg}
-use Rattle.flow_graph.specs.declared.dep_nodes.NodeName.{NodeName}
-use Rattle.flow_graph.specs.declared.dep_nodes.Chain.{Chain}
-use Rattle.flow_graph.specs.declared.dep_nodes.Graph.{Graph}
-use Rattle.flow_graph.specs.GraphData.{IsWalk, walk_end}
+use Rattle.dep_nodes.specs.declared.kinds.NodeKind.{NodeKind}
+use Rattle.dep_nodes.specs.declared.kinds.NodeKind.TheVariants.{Call, RetVal, Arg}
+use Rattle.dep_nodes.specs.declared.graphs.NodeName.{NodeName}
+use Rattle.dep_nodes.specs.declared.chains.Chain.{Chain}
+use Rattle.dep_nodes.specs.declared.graphs.Graph.{Graph}
+use Rattle.dependence.specs.GraphData.{IsWalk, walk_end}
 use Rattle.low_run.specs.declared.refusals.Side.{Side}
 use Rattle.low_run.specs.declared.refusals.Side.TheVariants.{Hidden, Observed}
 

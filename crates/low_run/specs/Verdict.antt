@@ -4,10 +4,10 @@ use Rattle.std.specs.Prelude.{◌≡◌, ℕ, ◌<◌, true, List, Some, Contain
 use Rattle.jo_prog.specs.declared.program.Program.{Program}
 use Rattle.jo_prog.specs.declared.labels.Labels.{Labels}
 use Rattle.jo_prog.specs.Labels.{reaches, misses, shown_at, brings, lets_out}
-use Rattle.flow_graph.specs.declared.flow.NodeKind.TheVariants.{Call, RetVal, Arg}
-use Rattle.flow_graph.specs.Flow.{IsFlowNode}
-use Rattle.flow_graph.specs.Graph.{Instance, Node, node, IsReached, label_at}
-use Rattle.flow_graph.specs.Chains.{Link, IsValidChain, end_of}
+use Rattle.dep_nodes.specs.declared.kinds.NodeKind.TheVariants.{Call, RetVal, Arg}
+use Rattle.dependence.specs.Flow.{IsFlowNode}
+use Rattle.dependence.specs.Graph.{Instance, Node, node, IsReached, label_at}
+use Rattle.dependence.specs.Chains.{Link, IsValidChain, end_of}
 use Rattle.chain_report.specs.Report.{chain_text}
 
 -- what the observer may not depend on: the result of a source whose level doesn't flow to it, and that of a release whose

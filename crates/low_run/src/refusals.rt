@@ -1,14 +1,13 @@
 //! What an observer may not depend on and what it may see, and a chain from the one to the other.
 ghost use Rattle.std.specs.Prelude.{◌≡◌, ◌^◌, ◌<◌, ℕ, IfOk, IfSome, IfNone, Some, Contains, length};
 ghost use Rattle.jo_prog.specs.Labels.{reaches, misses, shown_at, brings, lets_out};
-ghost use Rattle.flow_graph.specs.GraphData.{IsDependenceGraph, WalksTo};
+ghost use Rattle.dependence.specs.GraphData.{IsDependenceGraph, WalksTo};
 ghost use Rattle.flow_graph.specs.Slices.{HasEdgesInside};
 ghost use Rattle.low_run.specs.Verdict.{CleanForAll, Reports};
 ghost use Rattle.low_run.specs.Sides.{label_resolved, is_on, places_from, hidden_nodes, observed_nodes, IsForbiddenWalk};
 
 use chain_report::report;
-use flow_graph::dep_nodes::{Chain, Graph, NodeName};
-use flow_graph::flow::NodeKind;
+use dep_nodes::{Chain, Graph, NodeKind, NodeName};
 use flow_graph::slicer;
 use jo_ids::{LevelId, MethodId, NodeId};
 use jo_prog::labels::{self, Label, Labels};

@@ -2,7 +2,7 @@ use Rattle.std.proofs.Common.{◌≡◌, inl, inr, Some, true, false, sym, subst
 use Rattle.jo_prog.specs.Program.{operation_at, callee_at}
 use Rattle.jo_prog.proofs.Decoding.{operation_at-next}
 use Rattle.flow_graph.specs.Building.{IsStart, is_call, is_return}
-use Rattle.flow_graph.specs.GraphData.{IsDependenceGraph}
+use Rattle.dependence.specs.GraphData.{IsDependenceGraph}
 use Rattle.flow_graph.proofs.PlainWalk.{IsWalked, walked_start, walked_all_places, walked_instruction, walked_return, walked_source, walked_sink, walked_result, walked_callee, return_is, no_return_from, walked_next_small, call_no_return}
 use Rattle.flow_graph.proofs.sdg.build.Goals as goal
 

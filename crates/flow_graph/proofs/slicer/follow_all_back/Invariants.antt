@@ -1,5 +1,5 @@
 use Rattle.std.proofs.Common.{◌≡◌, ◌<◌, take, Contains, MatchBool}
-use Rattle.flow_graph.specs.declared.dep_nodes.Edge.{Edge}
+use Rattle.dep_nodes.specs.declared.graphs.Edge.{Edge}
 use Rattle.flow_graph.specs.Slices.{unmarked_count, IsMarking, OnlyGrows, IsClosedAt}
 use Rattle.flow_graph.proofs.slicer.follow_all_back.Given as goal
 

@@ -1,5 +1,5 @@
 use Rattle.std.proofs.Common.{◌≡◌, ◌++◌, ◌-◌}
-use Rattle.jo_prog.specs.Linking.{count_from}
+use Rattle.jo_prog.specs.Numbers.{count_from}
 use Rattle.jo_policy.proofs.reader.count_levels.Given as goal
 
 -- the levels before this one are there

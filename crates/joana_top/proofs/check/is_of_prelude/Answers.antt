@@ -1,7 +1,7 @@
 use Rattle.std.proofs.Common.{◌∙◌, ap, List, ℕ}
 use Rattle.std.specs.List.{list_any}
 use Rattle.std.specs.Str.{bytes_eq}
-use Rattle.jo_prog.specs.Linking.{prelude_names}
+use Rattle.jo_prog.specs.PreludeClasses.{prelude_names}
 use Rattle.joana_top.proofs.check.is_of_prelude.Goals as goal
 
 pub returns : goal.returns

@@ -1,7 +1,7 @@
 use Rattle.std.proofs.Common.{◌≡◌, ◌≤◌, ℕ, List, Option, Some, IfSome, IfNone, Contains, length, slice_get, refl, subst}
 use Rattle.std.proofs.lemmas.Option.{slice_get_read}
-use Rattle.flow_graph.specs.declared.dep_nodes.Chain.{Chain}
-use Rattle.flow_graph.specs.GraphData.{links_of, WalksTo}
+use Rattle.dep_nodes.specs.declared.chains.Chain.{Chain}
+use Rattle.dependence.specs.GraphData.{links_of, WalksTo}
 use Rattle.low_run.specs.Sides.{hidden_nodes, observed_nodes, IsForbiddenWalk}
 use Rattle.low_run.specs.Verdict.{Clean}
 use Rattle.low_run.proofs.Sides.{clean_more, clean_all}

@@ -1,7 +1,7 @@
 use Rattle.std.proofs.Common.{ap, ◌∙◌, sym}
 use Rattle.std.proofs.Common.{◌∷◌, []}
-use Rattle.flow_graph.specs.declared.flow.Place.TheVariants.{Local, Stack}
-use Rattle.flow_graph.specs.Flow.{writes_of}
+use Rattle.dependence.specs.declared.flow.Place.TheVariants.{Local, Stack}
+use Rattle.dependence.specs.Flow.{writes_of}
 use Rattle.flow_graph.proofs.BuildingLemmas.{written_place}
 use Rattle.flow_graph.proofs.sdg.Definitions.define_written.Goals as goal
 

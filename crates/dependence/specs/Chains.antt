@@ -4,11 +4,11 @@ use Rattle.std.specs.Prelude.{◌≡◌, ℕ, Bool, ◌&&◌, ◌==◌, List, []
 use Rattle.std.specs.Str.{bytes_eq}
 use Rattle.jo_prog.specs.declared.program.Program.{Program}
 use Rattle.jo_prog.specs.declared.labels.Labels.{Labels}
-use Rattle.flow_graph.specs.declared.flow.NodeKind.{NodeKind}
-use Rattle.flow_graph.specs.declared.flow.NodeKind.TheVariants.{Instr, Call, RetVal, RetKind, Throw, Poll, XPoll, Arg}
-use Rattle.flow_graph.specs.declared.dep_nodes.EdgeKind.{EdgeKind}
-use Rattle.flow_graph.specs.declared.dep_nodes.EdgeKind.TheVariants.{Data, Control, Out, Arg as ArgEdge, Call as CallEdge, Ret, Heap, Fork}
-use Rattle.flow_graph.specs.Graph.{Instance, Node, DependenceEdge}
+use Rattle.dep_nodes.specs.declared.kinds.NodeKind.{NodeKind}
+use Rattle.dep_nodes.specs.declared.kinds.NodeKind.TheVariants.{Instr, Call, RetVal, RetKind, Throw, Poll, XPoll, Arg}
+use Rattle.dep_nodes.specs.declared.kinds.EdgeKind.{EdgeKind}
+use Rattle.dep_nodes.specs.declared.kinds.EdgeKind.TheVariants.{Data, Control, Out, Arg as ArgEdge, Call as CallEdge, Ret, Heap, Fork}
+use Rattle.dependence.specs.Graph.{Instance, Node, DependenceEdge}
 
 -- a call: the caller's instance, and the pc
 pub record CallSite : Type 0 where

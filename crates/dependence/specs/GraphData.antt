@@ -3,18 +3,18 @@ use Rattle.std.specs.Prelude.{◌≡◌, ℕ, zero, suc, ◌^◌, ◌<◌, List,
 use Rattle.jo_prog.specs.declared.program.Program.{Program}
 use Rattle.jo_prog.specs.declared.labels.Labels.{Labels}
 use Rattle.jo_prog.specs.Program.{callee_at}
-use Rattle.flow_graph.specs.declared.flow.NodeKind.{NodeKind}
-use Rattle.flow_graph.specs.declared.flow.NodeKind.TheVariants.{Call, RetVal, Arg}
-use Rattle.flow_graph.specs.declared.dep_nodes.EdgeKind.{EdgeKind}
-use Rattle.flow_graph.specs.declared.dep_nodes.SiteList.{SiteList}
-use Rattle.flow_graph.specs.declared.dep_nodes.NodeName.{NodeName}
-use Rattle.flow_graph.specs.declared.dep_nodes.Edge.{Edge}
-use Rattle.flow_graph.specs.declared.dep_nodes.Step.{Step}
-use Rattle.flow_graph.specs.declared.dep_nodes.Word.{Word}
-use Rattle.flow_graph.specs.declared.dep_nodes.Word.TheVariants.{Edge as AnEdge, Pass}
-use Rattle.flow_graph.specs.declared.dep_nodes.Graph.{Graph}
-use Rattle.flow_graph.specs.Chains.{Link}
-use Rattle.flow_graph.specs.Graph.{Node, node, IsNode, DependenceEdge}
+use Rattle.dep_nodes.specs.declared.kinds.NodeKind.{NodeKind}
+use Rattle.dep_nodes.specs.declared.kinds.NodeKind.TheVariants.{Call, RetVal, Arg}
+use Rattle.dep_nodes.specs.declared.kinds.EdgeKind.{EdgeKind}
+use Rattle.dep_nodes.specs.declared.graphs.SiteList.{SiteList}
+use Rattle.dep_nodes.specs.declared.graphs.NodeName.{NodeName}
+use Rattle.dep_nodes.specs.declared.graphs.Edge.{Edge}
+use Rattle.dep_nodes.specs.declared.chains.Step.{Step}
+use Rattle.dep_nodes.specs.declared.chains.Word.{Word}
+use Rattle.dep_nodes.specs.declared.chains.Word.TheVariants.{Edge as AnEdge, Pass}
+use Rattle.dep_nodes.specs.declared.graphs.Graph.{Graph}
+use Rattle.dependence.specs.Chains.{Link}
+use Rattle.dependence.specs.Graph.{Node, node, IsNode, DependenceEdge}
 
 -- the sites of a context, in order
 abbrev pub sites_of : SiteList → List ℕ

@@ -8,13 +8,13 @@ use Rattle.jo_prog.specs.declared.labels.Label.TheVariants.{Source, Sink}
 use Rattle.jo_prog.specs.declared.labels.Labels.{Labels}
 use Rattle.jo_prog.specs.Labels.{label_of}
 use Rattle.jo_prog.specs.Program.{operation_at, callee_at}
-use Rattle.flow_graph.specs.declared.flow.Place.{Place}
-use Rattle.flow_graph.specs.declared.flow.NodeKind.{NodeKind}
-use Rattle.flow_graph.specs.declared.flow.NodeKind.TheVariants.{Instr, Call, RetVal, Arg, Kind, Thrown}
-use Rattle.flow_graph.specs.declared.dep_nodes.EdgeKind.{EdgeKind}
-use Rattle.flow_graph.specs.declared.dep_nodes.EdgeKind.TheVariants.{Data, Control, Out, Heap}
-use Rattle.flow_graph.specs.Flow.{IsFlowNode, Reads, ArgumentPlace}
-use Rattle.flow_graph.specs.Dependence.{Reaches, Controls}
+use Rattle.dependence.specs.declared.flow.Place.{Place}
+use Rattle.dep_nodes.specs.declared.kinds.NodeKind.{NodeKind}
+use Rattle.dep_nodes.specs.declared.kinds.NodeKind.TheVariants.{Instr, Call, RetVal, Arg, Kind, Thrown}
+use Rattle.dep_nodes.specs.declared.kinds.EdgeKind.{EdgeKind}
+use Rattle.dep_nodes.specs.declared.kinds.EdgeKind.TheVariants.{Data, Control, Out, Heap}
+use Rattle.dependence.specs.Flow.{IsFlowNode, Reads, ArgumentPlace}
+use Rattle.dependence.specs.Dependence.{Reaches, Controls}
 
 -- a method in a context, which is a list of sites
 pub record Instance : Type 0 where

@@ -1,23 +1,19 @@
 //! Makes the program of one class file.
+#![tactic(auto)]
+
 ghost use Rattle.std.specs.Prelude.{◌≡◌, ◌<◌, ◌^◌, ◌++◌, ◌∷◌, [], length, map, option_map, IfOk, OnOk};
 ghost use Rattle.class_pool.specs.Pool.{entry_at};
 ghost use Rattle.jo_prog.specs.declared.program.Operand.TheVariants.{Unused};
-ghost use Rattle.jo_prog.specs.Linking.{object_class, count_from, text_at, member_named, operand_of, code_of, method_of, this_class_of, program_of};
+ghost use Rattle.jo_prog.specs.Numbers.{count_from};
+ghost use Rattle.jo_prog.specs.PreludeClasses.{object_class};
+ghost use Rattle.linker.specs.Linking.{text_at, member_named, operand_of, code_of, method_of, this_class_of, program_of};
 
-use crate::program::{Class, Code, MemberRef, Method, Operand, Program, TypeRef};
+use jo_prog::lists::add;
+use jo_prog::program::{Class, Code, MemberRef, Method, Operand, Program, TypeRef};
 use class_pool::{ClassFile, CodeInfo, MethodInfo, PoolEntry, class_name_at, entry_at, utf8_at};
 use jo_ids::{ClassId, List, Memory, MethodId};
 use jo_text::Name;
 use std::alloc::Global;
-
-pub(crate) fn add<T: Drop>(list: &mut List<T>, item: T) -> Result<(), Memory>
-    ensures { OnOk result (list.new ≡ list.old ++ item ∷ []) }
-{
-    match list.push(item) {
-        Ok(()) => Ok(()),
-        Err((_item, memory)) => Err(memory),
-    }
-}
 
 fn named(alloc: Global, bytes: &[u8]) -> Result<Name, Memory>
     ensures { IfOk result (λ name. name ≡ bytes.now) }

@@ -1,12 +1,4 @@
-//! Nodes of flow graphs and the places that they read and write.
-
-/// Where a value stands in a frame: a local, a height of the operand stack counted from 0, or the exception on its way.
-#[derive(Clone, Copy)]
-pub enum Place {
-    Local(u16),
-    Stack(u16),
-    Pending,
-}
+//! Kinds of nodes and of dependence edges.
 
 /// A node of a method. Numbers are pcs, then the target of a branch, a row of the exception table, or the place of an
 /// argument or a parameter. The last five kinds stand in the dependence graph alone.
@@ -27,4 +19,17 @@ pub enum NodeKind {
     Kind,
     Value,
     Thrown,
+}
+
+/// The words of dependence edges.
+#[derive(Clone, Copy, PartialEq, Eq)]
+pub enum EdgeKind {
+    Data,
+    Control,
+    Out,
+    Arg,
+    Call,
+    Ret,
+    Heap,
+    Fork,
 }

@@ -8,10 +8,10 @@ use Rattle.jo_prog.specs.declared.program.Program.{Program}
 use Rattle.jo_prog.specs.declared.program.Method.{Method}
 use Rattle.jo_prog.specs.Program.{method_at, operation_at, callee_at}
 use Rattle.jo_prog.specs.Typing.{HasHeight, call_effect_of}
-use Rattle.flow_graph.specs.declared.flow.Place.{Place}
-use Rattle.flow_graph.specs.declared.flow.Place.TheVariants.{Local, Stack}
-use Rattle.flow_graph.specs.declared.flow.NodeKind.{NodeKind}
-use Rattle.flow_graph.specs.declared.flow.NodeKind.TheVariants.{Entry, Exit, Instr, Call, RetVal}
+use Rattle.dependence.specs.declared.flow.Place.{Place}
+use Rattle.dependence.specs.declared.flow.Place.TheVariants.{Local, Stack}
+use Rattle.dep_nodes.specs.declared.kinds.NodeKind.{NodeKind}
+use Rattle.dep_nodes.specs.declared.kinds.NodeKind.TheVariants.{Entry, Exit, Instr, Call, RetVal}
 
 -- the node at which a thread stands whose pc this is
 abbrev pub node_of : ℕ → Option (Operation × ℕ) → NodeKind

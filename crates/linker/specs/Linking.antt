@@ -7,6 +7,8 @@ use Rattle.class_pool.specs.declared.entries.PoolEntry.TheVariants.{MethodRef, N
 use Rattle.class_pool.specs.declared.classes.ClassFile.{ClassFile}
 use Rattle.class_pool.specs.declared.classes.MethodInfo.{MethodInfo}
 use Rattle.class_pool.specs.declared.classes.CodeInfo.{CodeInfo}
+use Rattle.jo_prog.specs.Numbers.{count_from}
+use Rattle.jo_prog.specs.PreludeClasses.{object_class}
 use Rattle.jo_prog.specs.declared.program.Program.{Program}
 use Rattle.jo_prog.specs.declared.program.Class.{Class}
 use Rattle.jo_prog.specs.declared.program.Method.{Method}
@@ -14,17 +16,6 @@ use Rattle.jo_prog.specs.declared.program.Code.{Code}
 use Rattle.jo_prog.specs.declared.program.TypeRef.TheVariants.{Class as OfClass}
 use Rattle.jo_prog.specs.declared.program.Operand.{Operand}
 use Rattle.jo_prog.specs.declared.program.Operand.TheVariants.{Unused, Member}
-
-abbrev pub object_name : List ℕ
-object_name = codes "java/lang/Object"
-
-abbrev pub object_class : Class
-object_class = record { name = object_name; flags = 0x0021; superclass = None; interfaces = []; fields = []; methods = []; operands = [] }
-
--- n numbers from a first one on
-abbrev pub count_from : ℕ → ℕ → List ℕ
-count_from first zero = []
-count_from first (suc n) = first ∷ count_from (suc first) n
 
 -- the text of a Utf8 entry, or none
 abbrev pub text_at : List PoolEntry → ℕ → List ℕ
@@ -71,16 +62,3 @@ this_class_of c = record {
 
 unfoldable pub program_of : ClassFile → Program
 program_of c = record { classes = object_class ∷ this_class_of c ∷ []; fields = []; methods = map (method_of c.pool) c.methods }
-
--- the names of the prelude's classes, all of them in java/lang
-abbrev pub prelude_names : List (List ℕ)
-prelude_names =
-    codes "java/lang/Object" ∷ codes "java/lang/String" ∷ codes "java/lang/Runnable" ∷ codes "java/lang/Thread"
-    ∷ codes "java/lang/Throwable" ∷ codes "java/lang/Exception" ∷ codes "java/lang/Error" ∷ codes "java/lang/RuntimeException"
-    ∷ codes "java/lang/ArithmeticException" ∷ codes "java/lang/NullPointerException" ∷ codes "java/lang/ClassCastException"
-    ∷ codes "java/lang/IndexOutOfBoundsException" ∷ codes "java/lang/ArrayStoreException"
-    ∷ codes "java/lang/NegativeArraySizeException" ∷ codes "java/lang/IllegalArgumentException"
-    ∷ codes "java/lang/IllegalStateException" ∷ codes "java/lang/IllegalMonitorStateException"
-    ∷ codes "java/lang/UnsupportedOperationException" ∷ codes "java/lang/ArrayIndexOutOfBoundsException"
-    ∷ codes "java/lang/IllegalThreadStateException" ∷ codes "java/lang/InterruptedException"
-    ∷ codes "java/lang/LinkageError" ∷ codes "java/lang/IncompatibleClassChangeError" ∷ []

@@ -2,10 +2,10 @@
 -- two different successors controls each node but Exit to which a path of at least one edge leads from it.
 use Rattle.std.specs.Prelude.{◌≢◌, ℕ}
 use Rattle.jo_prog.specs.declared.program.Program.{Program}
-use Rattle.flow_graph.specs.declared.flow.Place.{Place}
-use Rattle.flow_graph.specs.declared.flow.NodeKind.{NodeKind}
-use Rattle.flow_graph.specs.declared.flow.NodeKind.TheVariants.{Exit}
-use Rattle.flow_graph.specs.Flow.{FlowEdge, Path, Writes}
+use Rattle.dependence.specs.declared.flow.Place.{Place}
+use Rattle.dep_nodes.specs.declared.kinds.NodeKind.{NodeKind}
+use Rattle.dep_nodes.specs.declared.kinds.NodeKind.TheVariants.{Exit}
+use Rattle.dependence.specs.Flow.{FlowEdge, Path, Writes}
 
 -- The definition of a place at node d arrives at a node: there is a path of at least one edge, with no writer of the
 -- place strictly between. It grows at its end.

@@ -1,7 +1,7 @@
 use Rattle.std.proofs.Common.{◌≡◌, ℕ, zero, suc, ◌+◌, [], ◌∷◌, ◌++◌, ap, ◌∙◌, arith, add-one}
 use Rattle.std.proofs.lemmas.Grind.{common_steps}
-use Rattle.jo_prog.specs.Linking.{count_from}
-use Rattle.jo_prog.proofs.linker.numbers_below.Goals as goal
+use Rattle.jo_prog.specs.Numbers.{count_from}
+use Rattle.linker.proofs.numbers_below.Goals as goal
 
 -- one number more is one more at the end
 count_from-suc : (first n : ℕ) → count_from first (suc n) ≡ count_from first n ++ (first + n) ∷ []

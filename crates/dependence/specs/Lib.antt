@@ -1,0 +1,5 @@
+pub mod Flow
+pub mod Dependence
+pub mod Graph
+pub mod Chains
+pub mod GraphData

@@ -1,0 +1,23 @@
+-- The classes of the prelude, which come first in each program: java/lang/Object, here without its members, and the names of
+-- all of them (this project's own choice out of java/lang).
+use Rattle.std.specs.Prelude.{ℕ, List, [], ◌∷◌, None, codes}
+use Rattle.jo_prog.specs.declared.program.Class.{Class}
+
+abbrev pub object_name : List ℕ
+object_name = codes "java/lang/Object"
+
+abbrev pub object_class : Class
+object_class = record { name = object_name; flags = 0x0021; superclass = None; interfaces = []; fields = []; methods = []; operands = [] }
+
+-- the names of the prelude's classes, all of them in java/lang
+abbrev pub prelude_names : List (List ℕ)
+prelude_names =
+    codes "java/lang/Object" ∷ codes "java/lang/String" ∷ codes "java/lang/Runnable" ∷ codes "java/lang/Thread"
+    ∷ codes "java/lang/Throwable" ∷ codes "java/lang/Exception" ∷ codes "java/lang/Error" ∷ codes "java/lang/RuntimeException"
+    ∷ codes "java/lang/ArithmeticException" ∷ codes "java/lang/NullPointerException" ∷ codes "java/lang/ClassCastException"
+    ∷ codes "java/lang/IndexOutOfBoundsException" ∷ codes "java/lang/ArrayStoreException"
+    ∷ codes "java/lang/NegativeArraySizeException" ∷ codes "java/lang/IllegalArgumentException"
+    ∷ codes "java/lang/IllegalStateException" ∷ codes "java/lang/IllegalMonitorStateException"
+    ∷ codes "java/lang/UnsupportedOperationException" ∷ codes "java/lang/ArrayIndexOutOfBoundsException"
+    ∷ codes "java/lang/IllegalThreadStateException" ∷ codes "java/lang/InterruptedException"
+    ∷ codes "java/lang/LinkageError" ∷ codes "java/lang/IncompatibleClassChangeError" ∷ []
