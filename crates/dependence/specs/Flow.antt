@@ -12,6 +12,8 @@ use Rattle.dependence.specs.declared.flow.Place.{Place}
 use Rattle.dependence.specs.declared.flow.Place.TheVariants.{Local, Stack}
 use Rattle.dep_nodes.specs.declared.kinds.NodeKind.{NodeKind}
 use Rattle.dep_nodes.specs.declared.kinds.NodeKind.TheVariants.{Entry, Exit, Instr, Call, RetVal}
+use Rattle.dependence.specs.Paths.{Path}
+use Rattle.dependence.specs.Dependence.{Reaches, Controls}
 
 -- the node at which a thread stands whose pc this is
 abbrev pub node_of : ℕ → Option (Operation × ℕ) → NodeKind
@@ -54,13 +56,12 @@ pub data FlowEdge (program : Program) (m : ℕ) : NodeKind → NodeKind → Type
       → node_at program m next ≡ n → FlowEdge program m (RetVal pc) n
 
 -- a path along flow edges
-pub data Path (program : Program) (m : ℕ) : NodeKind → NodeKind → Type 0 where
-  stays : (n : NodeKind) → Path program m n n
-  steps : (a b c : NodeKind) → FlowEdge program m a b → Path program m b c → Path program m a c
+abbrev pub FlowPath : Program → ℕ → NodeKind → NodeKind → Type 0
+FlowPath program m = Path (FlowEdge program m)
 
 -- the flow graph has the nodes that Entry reaches
 abbrev pub IsFlowNode : Program → ℕ → NodeKind → Type 0
-IsFlowNode program m n = Path program m Entry n
+IsFlowNode program m n = FlowPath program m Entry n
 
 -- ---- places
 
@@ -100,10 +101,18 @@ pub data Reads (program : Program) (m : ℕ) : NodeKind → Place → Type 0 whe
 pub data Writes (program : Program) (m : ℕ) : NodeKind → Place → Type 0 where
   by_instr : (pc next height : ℕ) (operation : Operation) (v : Place) → operation_at program m pc ≡ Some (operation, next) → HasHeight program m pc height
       → Contains (writes_of operation height) v → Writes program m (Instr pc) v
-  by_result : (pc height arguments : ℕ) → HasHeight program m pc height → arguments_at program m pc ≡ Some arguments → results_at program m pc ≡ Some 1
-      → Writes program m (RetVal pc) (Stack (height - arguments))
+  by_result : (pc height arguments : ℕ) (v : Place) → HasHeight program m pc height → arguments_at program m pc ≡ Some arguments → results_at program m pc ≡ Some 1
+      → v ≡ Stack (height - arguments) → Writes program m (RetVal pc) v
 
 -- the place of an argument of the call at a pc, counted from 0
 pub data ArgumentPlace (program : Program) (m : ℕ) : ℕ → ℕ → Place → Type 0 where
-  of_argument : (pc height arguments i : ℕ) → HasHeight program m pc height → arguments_at program m pc ≡ Some arguments → i < arguments
-      → ArgumentPlace program m pc i (Stack (height - arguments + i))
+  of_argument : (pc height arguments i : ℕ) (v : Place) → HasHeight program m pc height → arguments_at program m pc ≡ Some arguments → i < arguments
+      → v ≡ Stack (height - arguments + i) → ArgumentPlace program m pc i v
+
+-- ---- dependence along flow edges
+
+abbrev pub FlowReaches : Program → ℕ → Place → NodeKind → NodeKind → Type 0
+FlowReaches program m = Reaches (FlowEdge program m) (Writes program m)
+
+abbrev pub FlowControls : Program → ℕ → NodeKind → NodeKind → Type 0
+FlowControls program m = Controls (FlowEdge program m) (λ n. n ≡ Exit)

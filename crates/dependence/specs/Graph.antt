@@ -13,8 +13,7 @@ use Rattle.dep_nodes.specs.declared.kinds.NodeKind.{NodeKind}
 use Rattle.dep_nodes.specs.declared.kinds.NodeKind.TheVariants.{Instr, Call, RetVal, Arg, Kind, Thrown}
 use Rattle.dep_nodes.specs.declared.kinds.EdgeKind.{EdgeKind}
 use Rattle.dep_nodes.specs.declared.kinds.EdgeKind.TheVariants.{Data, Control, Out, Heap}
-use Rattle.dependence.specs.Flow.{IsFlowNode, Reads, ArgumentPlace}
-use Rattle.dependence.specs.Dependence.{Reaches, Controls}
+use Rattle.dependence.specs.Flow.{IsFlowNode, Reads, ArgumentPlace, FlowReaches, FlowControls}
 
 -- a method in a context, which is a list of sites
 pub record Instance : Type 0 where
@@ -64,15 +63,15 @@ pub data UsesCursor (program : Program) (labels : Labels) : ℕ → Node → Typ
 -- a dependence edge
 pub data DependenceEdge (program : Program) (labels : Labels) : Node → EdgeKind → Node → Type 0 where
   -- a definition to a use of its place
-  used : (i : Instance) (d n : NodeKind) (v : Place) → IsReached labels i → IsFlowNode program i.method d → Reaches program i.method v d n → Reads program i.method n v
+  used : (i : Instance) (d n : NodeKind) (v : Place) → IsReached labels i → IsFlowNode program i.method d → FlowReaches program i.method v d n → Reads program i.method n v
       → DependenceEdge program labels (node i d) Data (node i n)
   -- an argument is read at its call
-  passed : (i : Instance) (d : NodeKind) (pc a : ℕ) (v : Place) → IsReached labels i → IsFlowNode program i.method d → Reaches program i.method v d (Call pc)
+  passed : (i : Instance) (d : NodeKind) (pc a : ℕ) (v : Place) → IsReached labels i → IsFlowNode program i.method d → FlowReaches program i.method v d (Call pc)
       → ArgumentPlace program i.method pc a v → DependenceEdge program labels (node i d) Data (node i (Arg pc a))
   -- what a sink shows
   shown : (i : Instance) (pc : ℕ) (v : Place) → IsReached labels i → IsFlowNode program i.method (Call pc) → is_sink (label_at program labels i.method pc) ≡ true
       → ArgumentPlace program i.method pc 0 v → DependenceEdge program labels (node i (Arg pc 0)) Data (node i (Call pc))
-  controlled : (i : Instance) (b n : NodeKind) → IsReached labels i → IsFlowNode program i.method b → Controls program i.method b n
+  controlled : (i : Instance) (b n : NodeKind) → IsReached labels i → IsFlowNode program i.method b → FlowControls program i.method b n
       → DependenceEdge program labels (node i b) Control (node i n)
   -- each return to how the method ended
   ended : (i : Instance) (pc next : ℕ) → IsReached labels i → IsFlowNode program i.method (Instr pc) → operation_at program i.method pc ≡ Some (Return, next)

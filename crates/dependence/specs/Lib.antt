@@ -1,5 +1,6 @@
-pub mod Flow
+pub mod Paths
 pub mod Dependence
+pub mod Flow
 pub mod Graph
 pub mod Chains
 pub mod GraphData

@@ -23,8 +23,7 @@ use Rattle.dep_nodes.specs.declared.graphs.NodeName.{NodeName}
 use Rattle.dep_nodes.specs.declared.graphs.Edge.{Edge}
 use Rattle.flow_graph.specs.declared.sdg.Definitions.{Definitions}
 use Rattle.flow_graph.specs.declared.sdg.SourceResult.{SourceResult}
-use Rattle.dependence.specs.Flow.{node_at, calls_native, calls, IsFlowNode, Reads, Writes, by_instr, by_result, ArgumentPlace, of_argument, arguments_at, results_at}
-use Rattle.dependence.specs.Dependence.{Reaches}
+use Rattle.dependence.specs.Flow.{node_at, calls_native, calls, IsFlowNode, Reads, Writes, by_instr, by_result, ArgumentPlace, of_argument, arguments_at, results_at, FlowReaches}
 use Rattle.dependence.specs.Graph.{Node, node, at_entry, of_flow, of_argument as argument_node, label_at, is_source, is_sink, UsesCursor, at_result, passed, shown, next_input}
 use Rattle.dependence.specs.Chains.{pc_of}
 use Rattle.dependence.specs.GraphData.{edge}
@@ -48,18 +47,18 @@ label_at_callee program labels m pc s e = rw e refl
 -- ---- places of a call
 
 argument_at : (program : Program) (m p a h n : ℕ) (v : Place) → ArgumentPlace program m p a v → HasHeight program m p h → arguments_at program m p ≡ Some n → (a < n) × (v ≡ Stack (h - n + a))
-argument_at program m p a h n v (of_argument q height count i high counts below) has is =
+argument_at program m p a h n v (of_argument q height count i w high counts below place) has is =
     let same : count ≡ n = same_Some count n (sym counts ∙ is) in
     let level : height ≡ h = heights_same program m q height h high has in
-    (omega arith, ap (λ x. Stack (x - count + i)) level ∙ ap (λ x. Stack (h - x + i)) same)
+    (omega arith, place ∙ ap (λ x. Stack (x - count + i)) level ∙ ap (λ x. Stack (h - x + i)) same)
 
 result_by : (program : Program) (m pc h n r : ℕ) (k : NodeKind) (v : Place) → Writes program m k v → k ≡ RetVal pc → HasHeight program m pc h → arguments_at program m pc ≡ Some n → results_at program m pc ≡ Some r → (r ≡ 1) × (v ≡ Stack (h - n))
 result_by program m pc h n r k v (by_instr p next height operation w found high among) is has counts gives = (let no : ⊥ = cc in absurd no)
-result_by program m pc h n r k v (by_result p height count high counted given) is has counts gives =
+result_by program m pc h n r k v (by_result p height count w high counted given place) is has counts gives =
     let same : p ≡ pc = ap pc_of is in
     let level : height ≡ h = heights_same program m pc height h (subst (λ q. HasHeight program m q height) same high) has in
     let number : count ≡ n = same_Some count n (sym counted ∙ ap (arguments_at program m) same ∙ counts) in
-    (same_Some r 1 (sym gives ∙ ap (results_at program m) (sym same) ∙ given), ap (λ x. Stack (x - count)) level ∙ ap (λ x. Stack (h - x)) number)
+    (same_Some r 1 (sym gives ∙ ap (results_at program m) (sym same) ∙ given), place ∙ ap (λ x. Stack (x - count)) level ∙ ap (λ x. Stack (h - x)) number)
 
 pub result_place : (program : Program) (m pc h n r : ℕ) (v : Place) → Writes program m (RetVal pc) v → HasHeight program m pc h → arguments_at program m pc ≡ Some n → results_at program m pc ≡ Some r → (r ≡ 1) × (v ≡ Stack (h - n))
 result_place program m pc h n r v w has counts gives = result_by program m pc h n r (RetVal pc) v w refl has counts gives
@@ -254,7 +253,7 @@ module _ (program : Program) (labels : Labels) (code : Code) (typed : IsTypedCod
         let first = stay 0 (node (root labels) Entry) built.first in
         let returns = return_flow in
         let zero_place : h - 1 + 0 ≡ h - 1 = omega arith in
-        let place : ArgumentPlace program labels.entry pc 0 (Stack (h - 1)) = subst (λ x. ArgumentPlace program labels.entry pc 0 (Stack x)) zero_place (of_argument pc h 1 0 has counts (omega arith)) in
+        let place : ArgumentPlace program labels.entry pc 0 (Stack (h - 1)) = of_argument pc h 1 0 (Stack (h - 1)) has counts (omega arith) (ap (λ x. Stack x) (sym zero_place)) in
         let in_3 = λ (e : Edge) (is : Contains (edges ++ c ++ u) e). Contains-append_left (edges ++ c ++ u ++ f) d e (Contains-append_left (edges ++ c ++ u) f e is) in
         let in_old = λ (e : Edge) (is : Contains edges e). in_3 e (Contains-append_left (edges ++ c) u e (Contains-append_left edges c e is)) in
         let no_cursor = λ (named : ℕ) (mine : UsesCursor program labels named (node (root labels) (RetVal pc))). source_no_sink (label_of labels s) (cursor_source named mine).1 sink in
@@ -267,7 +266,7 @@ module _ (program : Program) (labels : Labels) (code : Code) (typed : IsTypedCod
           uses = λ x v flows reach reads. absurd (no_read v reads);
           passes = λ x v a flows reach is.
               let one_place = only a v is in
-              let was = defined.each v x flows (subst (λ n. Reaches program labels.entry v x n) (sym call) reach) in
+              let was = defined.each v x flows (subst (λ n. FlowReaches program labels.entry v x n) (sym call) reach) in
               subst (λ b. HasEdge grown all (node (root labels) x) Data (node (root labels) (Arg pc b))) (sym one_place.0)
               (was.0, i, stay was.0 (node (root labels) x) was.2, arg, in_3 (edge was.0 Data i) (Contains-append_right (edges ++ c) u (edge was.0 Data i) (use_there i was.0 (definition_of definitions (Stack (h - 1))) (ap (definition_of definitions) (sym one_place.1) ∙ was.1))));
           shows = λ v flows is_shown is. (i, j, arg, at, Contains-append_left (edges ++ c ++ u ++ f) d (edge i Data j) (Contains-append_right (edges ++ c ++ u) f (edge i Data j) (contains_first (edge i Data j) [])));
@@ -313,7 +312,7 @@ module _ (program : Program) (labels : Labels) (code : Code) (typed : IsTypedCod
                       node (root labels) (Arg pc 0),
                       stay x (node (root labels) was.0) was.3,
                       arg,
-                      passed (root labels) was.0 pc 0 (Stack (h - 1)) at_entry was.1 (subst (λ n. Reaches program labels.entry (Stack (h - 1)) was.0 n) call was.2) place,
+                      passed (root labels) was.0 pc 0 (Stack (h - 1)) at_entry was.1 (subst (λ n. FlowReaches program labels.entry (Stack (h - 1)) was.0 n) call was.2) place,
                     )) e used_here
               ]
               | inr shows_it ↦ subst (λ x. IsEdgeOf program labels grown x) (contains_one (edge i Data j) e shows_it)

@@ -14,8 +14,9 @@ use Rattle.jo_prog.proofs.TypingPaths.{typed_by-next}
 use Rattle.dependence.specs.declared.flow.Place.{Place}
 use Rattle.dep_nodes.specs.declared.kinds.NodeKind.{NodeKind}
 use Rattle.dep_nodes.specs.declared.kinds.NodeKind.TheVariants.{Entry, Exit, Instr, Call, RetVal}
-use Rattle.dependence.specs.Flow.{node_of, node_at, falls_through, FlowEdge, begins, skips, falls, leaves, calls, arrives, Path, stays, steps, IsFlowNode}
-use Rattle.dependence.specs.Dependence.{Reaches, one, more}
+use Rattle.dependence.specs.Paths.{stays, steps}
+use Rattle.dependence.specs.Flow.{node_of, node_at, falls_through, FlowEdge, begins, skips, falls, leaves, calls, arrives, IsFlowNode, FlowPath, FlowReaches}
+use Rattle.dependence.specs.Dependence.{one, more}
 use Rattle.dependence.specs.Chains.{pc_of}
 
 -- ---- the node at a pc
@@ -109,14 +110,14 @@ LineAt program m code (Call p) = (s : Shape) × Arrives program m code p s × (n
 LineAt program m code (RetVal p) = (s : Shape) × Arrives program m code p s × (node_at program m p ≡ Call p)
 LineAt program m code _ = ⊥
 
-path_snoc : (program : Program) (m : ℕ) (a b c : NodeKind) → Path program m a b → FlowEdge program m b c → Path program m a c
+path_snoc : (program : Program) (m : ℕ) (a b c : NodeKind) → FlowPath program m a b → FlowEdge program m b c → FlowPath program m a c
 path_snoc program m a b c (stays n) e = steps n c c e (stays c)
 path_snoc program m a b c (steps x y z f path) e = steps x y c f (path_snoc program m y z c path e)
 
-pub flow_on : (program : Program) (m : ℕ) (a b c : NodeKind) → Path program m a b → FlowEdge program m b c → Path program m a c
+pub flow_on : (program : Program) (m : ℕ) (a b c : NodeKind) → FlowPath program m a b → FlowEdge program m b c → FlowPath program m a c
 flow_on program m a b c path e = path_snoc program m a b c path e
 
-pub reaches_flow : (program : Program) (m : ℕ) (v : Place) (d n : NodeKind) → IsFlowNode program m d → Reaches program m v d n → IsFlowNode program m n
+pub reaches_flow : (program : Program) (m : ℕ) (v : Place) (d n : NodeKind) → IsFlowNode program m d → FlowReaches program m v d n → IsFlowNode program m n
 reaches_flow program m v d n flow (one x e w) = path_snoc program m Entry d x flow e
 reaches_flow program m v d n flow (more x y r not e) = path_snoc program m Entry x y (reaches_flow program m v d x flow r) e
 
@@ -153,7 +154,7 @@ module _ (program : Program) (m : ℕ) (code : Code) (typed : IsTypedCode progra
       let on = arrive_next p next line.0 (InvokeStatic k) line.1 found (λ is. cc) in
       line_at next on.0 on.1 n e
 
-  path_line : (a b : NodeKind) → LineAt program m code a → Path program m a b → LineAt program m code b
+  path_line : (a b : NodeKind) → LineAt program m code a → FlowPath program m a b → LineAt program m code b
   path_line a b line (stays n) = line
   path_line a b line (steps x y z e path) = path_line y z (line_step x y line e) path
 

@@ -13,8 +13,9 @@ use Rattle.dependence.specs.declared.flow.Place.{Place}
 use Rattle.dep_nodes.specs.declared.kinds.NodeKind.{NodeKind}
 use Rattle.dep_nodes.specs.declared.kinds.NodeKind.TheVariants.{Entry, Exit, Instr, Call, RetVal, RetKind, Throw, Catch, Poll, XPoll, Arg, Param, Kind, Value, Thrown}
 use Rattle.dep_nodes.specs.declared.kinds.EdgeKind.{EdgeKind}
-use Rattle.dependence.specs.Flow.{node_of, node_at, falls_through, FlowEdge, begins, skips, falls, leaves, calls, arrives, Path, stays, steps, IsFlowNode, Writes, ArgumentPlace}
-use Rattle.dependence.specs.Dependence.{Reaches, one, more, Controls}
+use Rattle.dependence.specs.Paths.{stays, steps}
+use Rattle.dependence.specs.Flow.{node_of, node_at, falls_through, FlowEdge, begins, skips, falls, leaves, calls, arrives, IsFlowNode, Writes, ArgumentPlace, FlowPath, FlowReaches, FlowControls}
+use Rattle.dependence.specs.Dependence.{one, more}
 use Rattle.dependence.specs.Graph.{Instance, Node, node, at_entry, IsNode, of_flow, of_argument, of_kind, of_thrown, UsesCursor, at_result, DependenceEdge, used, passed, shown, controlled, ended, next_input}
 use Rattle.dependence.specs.Chains.{pc_of}
 use Rattle.flow_graph.proofs.PlainLine.{node_at_step, out_of, LineAt, flow_line, flow_on, reaches_flow, IsBehind, predecessor}
@@ -59,7 +60,7 @@ flow_up program m x n (leaves p next found) = inl refl
 flow_up program m x n (calls p next k found native) = inr (omega arith)
 flow_up program m x n (arrives p next k y found native e) = let rises = operation_at-next program m p next (InvokeStatic k) found in inr (omega (arith, position_at program m next y e))
 
-pub reaches_up : (program : Program) (m : ℕ) (v : Place) (d n : NodeKind) → Reaches program m v d n → (n ≡ Exit) ⊎ (position d ≤ position n)
+pub reaches_up : (program : Program) (m : ℕ) (v : Place) (d n : NodeKind) → FlowReaches program m v d n → (n ≡ Exit) ⊎ (position d ≤ position n)
 reaches_up program m v d n (one y e w) = flow_up program m d y e
 reaches_up program m v d n (more x y r not e) =
     elim (reaches_up program m v d x r) [
@@ -77,12 +78,12 @@ into_return program m p x n (leaves q next found) is = cc
 into_return program m p x n (calls q next k found native) is = ap (λ k. Call (pc_of k)) is
 into_return program m p x n (arrives q next k y found native e) is = absurd (false≢true (node_at_step program m next (RetVal p) (e ∙ is)))
 
-reaches_return : (program : Program) (m p : ℕ) (v : Place) (d n : NodeKind) → Reaches program m v d n → n ≡ RetVal p → Reaches program m v d (Call p)
+reaches_return : (program : Program) (m p : ℕ) (v : Place) (d n : NodeKind) → FlowReaches program m v d n → n ≡ RetVal p → FlowReaches program m v d (Call p)
 reaches_return program m p v d n (one y e w) is =
     absurd (no_write_at_call program m p v (subst (λ k. Writes program m k v) (into_return program m p d y e is) w))
-reaches_return program m p v d n (more x y r not e) is = subst (λ k. Reaches program m v d k) (into_return program m p x y e is) r
+reaches_return program m p v d n (more x y r not e) is = subst (λ k. FlowReaches program m v d k) (into_return program m p x y e is) r
 
-reaches_out : (program : Program) (m : ℕ) (v : Place) (d k : NodeKind) → Reaches program m v d (out_of k) → Reaches program m v d k
+reaches_out : (program : Program) (m : ℕ) (v : Place) (d k : NodeKind) → FlowReaches program m v d (out_of k) → FlowReaches program m v d k
 reaches_out program m v d Entry r = r
 reaches_out program m v d Exit r = r
 reaches_out program m v d (Instr p) r = r
@@ -100,17 +101,17 @@ reaches_out program m v d Value r = r
 reaches_out program m v d Thrown r = r
 
 module _ (program : Program) (m : ℕ) (code : Code) (typed : IsTypedCode program m code) (pc next : ℕ) (operation : Operation) (found : operation_at program m pc ≡ Some (operation, next)) (behind : IsBehind program m code pc) where
-  reaches_by : (v : Place) (d n : NodeKind) → Reaches program m v d n → n ≡ node_at program m next → IsFlowNode program m d
-      → ((d ≡ out_of (node_at program m pc)) × Writes program m d v) ⊎ (Reaches program m v d (node_at program m pc) × (Writes program m (out_of (node_at program m pc)) v → ⊥))
+  reaches_by : (v : Place) (d n : NodeKind) → FlowReaches program m v d n → n ≡ node_at program m next → IsFlowNode program m d
+      → ((d ≡ out_of (node_at program m pc)) × Writes program m d v) ⊎ (FlowReaches program m v d (node_at program m pc) × (Writes program m (out_of (node_at program m pc)) v → ⊥))
   reaches_by v d n (one y e w) is flow =
       inl (predecessor program m code typed pc next operation found behind d flow (subst (λ k. FlowEdge program m d k) is e), w)
   reaches_by v d n (more x y r not e) is flow =
       let same = predecessor program m code typed pc next operation found behind x (reaches_flow program m v d x flow r) (subst (λ k. FlowEdge program m x k) is e) in
-      inr (reaches_out program m v d (node_at program m pc) (subst (λ k. Reaches program m v d k) same r), subst (λ k. Writes program m k v → ⊥) same not)
+      inr (reaches_out program m v d (node_at program m pc) (subst (λ k. FlowReaches program m v d k) same r), subst (λ k. Writes program m k v → ⊥) same not)
 
   -- a definition that reaches the next node stands at this pc, or it reaches this pc and is not written over here
-  pub reaches_next : (v : Place) (d : NodeKind) → IsFlowNode program m d → Reaches program m v d (node_at program m next)
-      → ((d ≡ out_of (node_at program m pc)) × Writes program m d v) ⊎ (Reaches program m v d (node_at program m pc) × (Writes program m (out_of (node_at program m pc)) v → ⊥))
+  pub reaches_next : (v : Place) (d : NodeKind) → IsFlowNode program m d → FlowReaches program m v d (node_at program m next)
+      → ((d ≡ out_of (node_at program m pc)) × Writes program m d v) ⊎ (FlowReaches program m v d (node_at program m pc) × (Writes program m (out_of (node_at program m pc)) v → ⊥))
   reaches_next v d flow r = reaches_by v d (node_at program m next) r refl flow
 
 -- ---- control
@@ -140,7 +141,7 @@ edge_successor program m b x (calls p next k found native) = inr refl
 edge_successor program m b x (arrives p next k y found native e) = inr (sym e ∙ sym (ap (after_call program m) found))
 
 -- Entry alone has two successors
-pub controls_entry : (program : Program) (m : ℕ) (b n : NodeKind) → Controls program m b n → b ≡ Entry
+pub controls_entry : (program : Program) (m : ℕ) (b n : NodeKind) → FlowControls program m b n → b ≡ Entry
 controls_entry program m b n c =
     elim (edge_successor program m b c.one c.to_one) [
       | inl is ↦ is
@@ -155,20 +156,20 @@ entry_edge program m a b (leaves p next found) is = inr refl
 entry_edge program m a b (calls p next k found native) is = cc
 entry_edge program m a b (arrives p next k y found native e) is = cc
 
-exit_path : (program : Program) (m : ℕ) (a b : NodeKind) → Path program m a b → a ≡ Exit → b ≡ Exit
+exit_path : (program : Program) (m : ℕ) (a b : NodeKind) → FlowPath program m a b → a ≡ Exit → b ≡ Exit
 exit_path program m a b (stays n) is = is
 exit_path program m a b (steps x y z e path) is = absurd (no_way_out program m y (subst (λ k. FlowEdge program m k y) is e))
 
-from_entry : (program : Program) (m : ℕ) (a b : NodeKind) → Path program m a b → a ≡ Entry → (b ≡ Entry) ⊎ ((b ≡ Exit) ⊎ Path program m (node_at program m 0) b)
+from_entry : (program : Program) (m : ℕ) (a b : NodeKind) → FlowPath program m a b → a ≡ Entry → (b ≡ Entry) ⊎ ((b ≡ Exit) ⊎ FlowPath program m (node_at program m 0) b)
 from_entry program m a b (stays n) is = inl is
 from_entry program m a b (steps x y z e path) is =
     elim (entry_edge program m x y e is) [
-      | inl begun ↦ inr (inr (subst (λ k. Path program m k z) begun path))
+      | inl begun ↦ inr (inr (subst (λ k. FlowPath program m k z) begun path))
       | inr out ↦ inr (inl (exit_path program m y z path out))
     ]
 
 -- Entry controls each flow node but itself and Exit
-pub entry_controls : (program : Program) (m : ℕ) (n : NodeKind) → IsFlowNode program m n → n ≢ Entry → n ≢ Exit → Controls program m Entry n
+pub entry_controls : (program : Program) (m : ℕ) (n : NodeKind) → IsFlowNode program m n → n ≢ Entry → n ≢ Exit → FlowControls program m Entry n
 entry_controls program m n flow no_entry no_exit =
     elim (from_entry program m Entry n flow refl) [
       | inl is ↦ absurd (no_entry is)
@@ -193,11 +194,11 @@ entry_controls program m n flow no_entry no_exit =
 abbrev pub root : Labels → Instance
 root labels = record { method = labels.entry; context = [] }
 
-flow_along : (program : Program) (m : ℕ) (a b c : NodeKind) → Path program m a b → Path program m b c → Path program m a c
+flow_along : (program : Program) (m : ℕ) (a b c : NodeKind) → FlowPath program m a b → FlowPath program m b c → FlowPath program m a c
 flow_along program m a b c path (stays n) = path
 flow_along program m a b c path (steps x y z e rest) = flow_along program m a y z (flow_on program m a x y path e) rest
 
-pub controlled_flow : (program : Program) (m : ℕ) (b n : NodeKind) → IsFlowNode program m b → Controls program m b n → IsFlowNode program m n
+pub controlled_flow : (program : Program) (m : ℕ) (b n : NodeKind) → IsFlowNode program m b → FlowControls program m b n → IsFlowNode program m n
 controlled_flow program m b n flow c = flow_along program m Entry c.first n (flow_on program m Entry b c.first flow c.leads) c.path
 
 cursor_node : (program : Program) (labels : Labels) (source : ℕ) (a : Node) → UsesCursor program labels source a → IsNode program labels a

@@ -23,8 +23,9 @@ use Rattle.dep_nodes.specs.declared.graphs.NodeName.{NodeName}
 use Rattle.dep_nodes.specs.declared.graphs.Edge.{Edge}
 use Rattle.flow_graph.specs.declared.sdg.Definitions.{Definitions}
 use Rattle.flow_graph.specs.declared.sdg.SourceResult.{SourceResult}
-use Rattle.dependence.specs.Flow.{node_at, FlowEdge, stays, IsFlowNode, reads_of, writes_of, Reads, Writes, by_instr, by_result, ArgumentPlace}
-use Rattle.dependence.specs.Dependence.{Reaches, one, Controls}
+use Rattle.dependence.specs.Paths.{stays}
+use Rattle.dependence.specs.Flow.{node_at, FlowEdge, IsFlowNode, reads_of, writes_of, Reads, Writes, by_instr, by_result, ArgumentPlace, FlowReaches, FlowControls}
+use Rattle.dependence.specs.Dependence.{one}
 use Rattle.dependence.specs.Chains.{pc_of}
 use Rattle.dependence.specs.Graph.{Node, node, at_entry, IsNode, of_flow, label_at, is_source, is_sink, UsesCursor, at_result, DependenceEdge, used, passed, shown, controlled, ended, next_input}
 use Rattle.dependence.specs.GraphData.{edge}
@@ -49,14 +50,14 @@ pub record IsBuilt (program : Program) (labels : Labels) (bound : ℕ) (nodes : 
 
 -- the table holds the definitions that reach a node
 pub record IsDefined (program : Program) (labels : Labels) (at : NodeKind) (nodes : List NodeName) (definitions : Definitions) : Type 0 where
-  pub right : (v : Place) (j : ℕ) → definition_of definitions v ≡ Some j → (d : NodeKind) × IsFlowNode program labels.entry d × Reaches program labels.entry v d at × (node_in nodes j ≡ Some (node (root labels) d))
-  pub each : (v : Place) (d : NodeKind) → IsFlowNode program labels.entry d → Reaches program labels.entry v d at → (j : ℕ) × (definition_of definitions v ≡ Some j) × (node_in nodes j ≡ Some (node (root labels) d))
+  pub right : (v : Place) (j : ℕ) → definition_of definitions v ≡ Some j → (d : NodeKind) × IsFlowNode program labels.entry d × FlowReaches program labels.entry v d at × (node_in nodes j ≡ Some (node (root labels) d))
+  pub each : (v : Place) (d : NodeKind) → IsFlowNode program labels.entry d → FlowReaches program labels.entry v d at → (j : ℕ) × (definition_of definitions v ≡ Some j) × (node_in nodes j ≡ Some (node (root labels) d))
 
 -- the edges at an instruction are there
 pub record CoversEdges (program : Program) (labels : Labels) (pc : ℕ) (nodes : List NodeName) (edges : List Edge) : Type 0 where
-  pub uses : (d : NodeKind) (v : Place) → IsFlowNode program labels.entry d → Reaches program labels.entry v d (Instr pc) → Reads program labels.entry (Instr pc) v
+  pub uses : (d : NodeKind) (v : Place) → IsFlowNode program labels.entry d → FlowReaches program labels.entry v d (Instr pc) → Reads program labels.entry (Instr pc) v
       → HasEdge nodes edges (node (root labels) d) Data (node (root labels) (Instr pc))
-  pub passes : (d : NodeKind) (v : Place) (k : ℕ) → IsFlowNode program labels.entry d → Reaches program labels.entry v d (Call pc) → ArgumentPlace program labels.entry pc k v
+  pub passes : (d : NodeKind) (v : Place) (k : ℕ) → IsFlowNode program labels.entry d → FlowReaches program labels.entry v d (Call pc) → ArgumentPlace program labels.entry pc k v
       → HasEdge nodes edges (node (root labels) d) Data (node (root labels) (Arg pc k))
   pub shows : (v : Place) → IsFlowNode program labels.entry (Call pc) → is_sink (label_at program labels labels.entry pc) ≡ true → ArgumentPlace program labels.entry pc 0 v
       → HasEdge nodes edges (node (root labels) (Arg pc 0)) Data (node (root labels) (Call pc))
@@ -66,24 +67,24 @@ pub record CoversEdges (program : Program) (labels : Labels) (pc : ℕ) (nodes :
       → HasEdge nodes edges (node (root labels) (RetVal pc)) Heap y × HasEdge nodes edges y Heap (node (root labels) (RetVal pc))
 
 module _ (program : Program) (labels : Labels) (pc : ℕ) (nodes : List NodeName) (edges : List Edge) (cover : CoversEdges program labels pc nodes edges) where
-  used_by : (d n : NodeKind) (v : Place) → IsFlowNode program labels.entry d → Reaches program labels.entry v d n → Reads program labels.entry n v → position d ≤ pc + 1 → position n ≤ pc + 1
+  used_by : (d n : NodeKind) (v : Place) → IsFlowNode program labels.entry d → FlowReaches program labels.entry v d n → Reads program labels.entry n v → position d ≤ pc + 1 → position n ≤ pc + 1
       → (position d ≡ pc + 1) ⊎ (position n ≡ pc + 1) → HasEdge nodes edges (node (root labels) d) Data (node (root labels) n)
   used_by d n v flow reaches (by_instr p next height operation w found has among) low high here =
       elim (cases_eq p pc) [
         | inl same ↦ subst (λ q. HasEdge nodes edges (node (root labels) d) Data (node (root labels) (Instr q))) (sym same)
-            (cover.uses d w flow (subst (λ q. Reaches program labels.entry w d (Instr q)) same reaches) (subst (λ q. Reads program labels.entry (Instr q) w) same (by_instr p next height operation w found has among)))
+            (cover.uses d w flow (subst (λ q. FlowReaches program labels.entry w d (Instr q)) same reaches) (subst (λ q. Reads program labels.entry (Instr q) w) same (by_instr p next height operation w found has among)))
         | inr other ↦ elim here [
           | inl first ↦ elim (reaches_up program labels.entry w d (Instr p) reaches) [ inl is ↦ (let no : ⊥ = cc in absurd no) | inr up ↦ absurd (other (omega arith)) ]
           | inr second ↦ absurd (other (omega arith))
         ]
       ]
 
-  passed_by : (d : NodeKind) (p k : ℕ) (v : Place) → IsFlowNode program labels.entry d → Reaches program labels.entry v d (Call p) → ArgumentPlace program labels.entry p k v → position d ≤ pc + 1 → p + 1 ≤ pc + 1
+  passed_by : (d : NodeKind) (p k : ℕ) (v : Place) → IsFlowNode program labels.entry d → FlowReaches program labels.entry v d (Call p) → ArgumentPlace program labels.entry p k v → position d ≤ pc + 1 → p + 1 ≤ pc + 1
       → (position d ≡ pc + 1) ⊎ (p + 1 ≡ pc + 1) → HasEdge nodes edges (node (root labels) d) Data (node (root labels) (Arg p k))
   passed_by d p k v flow reaches place low high here =
       elim (cases_eq p pc) [
         | inl same ↦ subst (λ q. HasEdge nodes edges (node (root labels) d) Data (node (root labels) (Arg q k))) (sym same)
-            (cover.passes d v k flow (subst (λ q. Reaches program labels.entry v d (Call q)) same reaches) (subst (λ q. ArgumentPlace program labels.entry q k v) same place))
+            (cover.passes d v k flow (subst (λ q. FlowReaches program labels.entry v d (Call q)) same reaches) (subst (λ q. ArgumentPlace program labels.entry q k v) same place))
         | inr other ↦ elim here [
           | inl first ↦ elim (reaches_up program labels.entry v d (Call p) reaches) [ inl is ↦ (let no : ⊥ = cc in absurd no) | inr up ↦ absurd (other (omega arith)) ]
           | inr second ↦ absurd (other (omega arith))
@@ -96,7 +97,7 @@ module _ (program : Program) (labels : Labels) (pc : ℕ) (nodes : List NodeName
       subst (λ q. HasEdge nodes edges (node (root labels) (Arg q 0)) Data (node (root labels) (Call q))) (sym same)
       (cover.shows v (subst (λ q. IsFlowNode program labels.entry (Call q)) same flow) (subst (λ q. is_sink (label_at program labels labels.entry q) ≡ true) same sink) (subst (λ q. ArgumentPlace program labels.entry q 0 v) same place))
 
-  controlled_by : (b n : NodeKind) → IsFlowNode program labels.entry b → Controls program labels.entry b n → (position b ≡ pc + 1) ⊎ (position n ≡ pc + 1)
+  controlled_by : (b n : NodeKind) → IsFlowNode program labels.entry b → FlowControls program labels.entry b n → (position b ≡ pc + 1) ⊎ (position n ≡ pc + 1)
       → HasEdge nodes edges (node (root labels) b) Control (node (root labels) n)
   controlled_by b n flow controls here =
       let is = controls_entry program labels.entry b n controls in
@@ -273,7 +274,7 @@ module _ (program : Program) (labels : Labels) (code : Code) (typed : IsTypedCod
       → node_in nodes j ≡ Some (node (root labels) (out_of (node_at program labels.entry pc)))
       → ((v : Place) → Writes program labels.entry (out_of (node_at program labels.entry pc)) v → Contains places v) → ((v : Place) → Contains places v → Writes program labels.entry (out_of (node_at program labels.entry pc)) v)
       → IsFlowNode program labels.entry (out_of (node_at program labels.entry pc)) → FlowEdge program labels.entry (out_of (node_at program labels.entry pc)) (node_at program labels.entry next)
-      → ((v : Place) (d : NodeKind) → Reaches program labels.entry v d (node_at program labels.entry pc) → (Writes program labels.entry (out_of (node_at program labels.entry pc)) v → ⊥) → Reaches program labels.entry v d (node_at program labels.entry next))
+      → ((v : Place) (d : NodeKind) → FlowReaches program labels.entry v d (node_at program labels.entry pc) → (Writes program labels.entry (out_of (node_at program labels.entry pc)) v → ⊥) → FlowReaches program labels.entry v d (node_at program labels.entry next))
       → IsDefined program labels (node_at program labels.entry next) nodes after
   defined_next old nodes before after places j defined stay written at to from flow leads keep = record {
     right = λ v i e. elim (cases_contains places v) [
@@ -339,7 +340,7 @@ module _ (program : Program) (labels : Labels) (pc next : ℕ) (operation : Oper
       let o_same = (some_pair_parts o operation to next (sym at ∙ ap (operation_at program labels.entry) same ∙ found)).0 in
       let h_same = heights_same program labels.entry pc height h (subst (λ q. HasHeight program labels.entry q height) same high) has in
       subst (λ x. Contains (writes_of operation x) w) h_same (subst (λ x. Contains (writes_of x height) w) o_same among)
-  writes_by k v (by_result p height arguments high counts results) is = (let no : ⊥ = cc in absurd no)
+  writes_by k v (by_result p height arguments w high counts results place) is = (let no : ⊥ = cc in absurd no)
 
   pub instr_reads : (v : Place) → Reads program labels.entry (Instr pc) v → Contains (reads_of operation h) v
   instr_reads v r = reads_by (Instr pc) v r refl
@@ -368,7 +369,7 @@ module _ (program : Program) (labels : Labels) (code : Code) (typed : IsTypedCod
       let no = λ (call : node_at program labels.entry pc ≡ Call pc). no_call program labels code typed pc pc refl instr call in
       let cover : CoversEdges program labels pc more all = record {
         uses = λ d v flows r reads.
-            let was = defined.each v d flows (subst (λ k. Reaches program labels.entry v d k) (sym instr) r) in (
+            let was = defined.each v d flows (subst (λ k. FlowReaches program labels.entry v d k) (sym instr) r) in (
               was.0,
               j,
               stay was.0 (node (root labels) d) was.2,
@@ -405,7 +406,7 @@ module _ (program : Program) (labels : Labels) (code : Code) (typed : IsTypedCod
                   node (root labels) (Instr pc),
                   stay d (node (root labels) was.0) was.3,
                   at,
-                  used (root labels) was.0 (Instr pc) v at_entry was.1 (subst (λ k. Reaches program labels.entry v was.0 k) instr was.2) (by_instr pc next h operation v found has among),
+                  used (root labels) was.0 (Instr pc) v at_entry was.1 (subst (λ k. FlowReaches program labels.entry v was.0 k) instr was.2) (by_instr pc next h operation v found has among),
                 )) e used_here
           ]
           | inr out ↦ out_right program labels pc next j operation found more flow at third e out

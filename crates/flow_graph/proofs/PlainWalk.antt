@@ -25,8 +25,9 @@ use Rattle.dep_nodes.specs.declared.graphs.Edge.{Edge}
 use Rattle.flow_graph.specs.declared.sdg.Definitions.{Definitions}
 use Rattle.flow_graph.specs.declared.sdg.SourceResult.{SourceResult}
 use Rattle.flow_graph.specs.declared.sdg.Builder.{Builder}
-use Rattle.dependence.specs.Flow.{node_of, node_at, falls_through, FlowEdge, begins, skips, falls, leaves, calls, arrives, Path, stays, steps, IsFlowNode, writes_of, Reads, Writes, by_instr, by_result}
-use Rattle.dependence.specs.Dependence.{Reaches, one, more}
+use Rattle.dependence.specs.Paths.{stays, steps}
+use Rattle.dependence.specs.Flow.{node_of, node_at, falls_through, FlowEdge, begins, skips, falls, leaves, calls, arrives, IsFlowNode, writes_of, Reads, Writes, by_instr, by_result, FlowPath, FlowReaches}
+use Rattle.dependence.specs.Dependence.{one, more}
 use Rattle.dependence.specs.Graph.{Node, node, at_entry, IsNode, of_flow, of_kind, of_thrown, is_source, is_sink, UsesCursor, at_result, DependenceEdge, used, passed, shown, controlled, ended, next_input}
 use Rattle.dependence.specs.GraphData.{IsDependenceGraph}
 use Rattle.flow_graph.specs.Building.{definition_of, HasPlace, name_of, start_nodes, IsStart, is_call, is_return, height_after, AddsInstruction, AddsSource, AddsSink}
@@ -95,7 +96,7 @@ into_entry program m x n (leaves p next found) is = cc
 into_entry program m x n (calls p next k found native) is = cc
 into_entry program m x n (arrives p next k y found native e) is = false≢true (node_at_step program m next Entry (e ∙ is))
 
-path_to_entry : (program : Program) (m : ℕ) (a b : NodeKind) → Path program m a b → b ≡ Entry → a ≡ Entry
+path_to_entry : (program : Program) (m : ℕ) (a b : NodeKind) → FlowPath program m a b → b ≡ Entry → a ≡ Entry
 path_to_entry program m a b (stays n) is = is
 path_to_entry program m a b (steps x y z e path) is = absurd (into_entry program m x y e (path_to_entry program m y z path is))
 
@@ -113,11 +114,11 @@ into_start program m x n (arrives p next k y found native e) is =
 no_write_at_entry : (program : Program) (m : ℕ) (v : Place) → Writes program m Entry v → ⊥
 no_write_at_entry program m v w = elim w [ ]
 
-reaches_entry : (program : Program) (m : ℕ) (v : Place) (d n : NodeKind) → Reaches program m v d n → n ≡ Entry → ⊥
+reaches_entry : (program : Program) (m : ℕ) (v : Place) (d n : NodeKind) → FlowReaches program m v d n → n ≡ Entry → ⊥
 reaches_entry program m v d n (one y e w) is = into_entry program m d y e is
 reaches_entry program m v d n (more x y r not e) is = into_entry program m x y e is
 
-reaches_start : (program : Program) (m : ℕ) (v : Place) (d n : NodeKind) → Reaches program m v d n → n ≡ node_at program m 0 → ⊥
+reaches_start : (program : Program) (m : ℕ) (v : Place) (d n : NodeKind) → FlowReaches program m v d n → n ≡ node_at program m 0 → ⊥
 reaches_start program m v d n (one y e w) is = no_write_at_entry program m v (subst (λ k. Writes program m k v) (into_start program m d y e is) w)
 reaches_start program m v d n (more x y r not e) is = reaches_entry program m v d x r (into_start program m x y e is)
 
@@ -365,7 +366,7 @@ module _ (program : Program) (labels : Labels) (pc next height : ℕ) (operation
             (λ v among. subst (λ k. Writes program m k v) (sym out) (by_instr pc next height operation v found has_height among))
             (subst (λ k. IsFlowNode program m k) (sym out) flow_here)
             (subst (λ k. FlowEdge program m k (node_at program m next)) (sym out) leads)
-            (λ v d r no_write. more (Instr pc) (node_at program m next) (subst (λ k. Reaches program m v d k) instr r) (subst (λ k. Writes program m k v → ⊥) out no_write) leads);
+            (λ v d r no_write. more (Instr pc) (node_at program m next) (subst (λ k. FlowReaches program m v d k) instr r) (subst (λ k. Writes program m k v → ⊥) out no_write) leads);
         locals = adds.definitions.sizes.0 ∙ w.locals;
         stack = adds.definitions.sizes.1 ∙ w.stack;
       }
@@ -443,10 +444,10 @@ module _ (program : Program) (labels : Labels) (pc next height : ℕ) (operation
             subst (λ x. Contains (Stack height ∷ []) x) (ap (λ x. Stack x) (sym zero_off) ∙ sym is) (contains_first (Stack height) []))
             (λ v among.
             let zero_off : height - 0 ≡ height = omega arith in
-            subst (λ x. Writes program m x v) (sym out) (subst (λ x. Writes program m (RetVal pc) x) (ap (λ x. Stack x) zero_off ∙ contains_one (Stack height) v among) (by_result pc height 0 has_height call_is.counts call_is.gives)))
+            subst (λ x. Writes program m x v) (sym out) (by_result pc height 0 v has_height call_is.counts call_is.gives (sym (contains_one (Stack height) v among) ∙ ap (λ x. Stack x) (sym zero_off))))
             (subst (λ x. IsFlowNode program m x) (sym out) result_flow)
             (subst (λ x. FlowEdge program m x (node_at program m next)) (sym out) leads)
-            (λ v d r no_write. more (RetVal pc) (node_at program m next) (more (Call pc) (RetVal pc) (subst (λ x. Reaches program m v d x) call r) (no_write_at_call program m pc v) into) (subst (λ x. Writes program m x v → ⊥) out no_write) leads);
+            (λ v d r no_write. more (RetVal pc) (node_at program m next) (more (Call pc) (RetVal pc) (subst (λ x. FlowReaches program m v d x) call r) (no_write_at_call program m pc v) into) (subst (λ x. Writes program m x v → ⊥) out no_write) leads);
         locals = adds.definitions.sizes.0 ∙ w.locals;
         stack = adds.definitions.sizes.1 ∙ w.stack;
       }
@@ -502,7 +503,7 @@ module _ (program : Program) (labels : Labels) (pc next height : ℕ) (operation
             (λ v among. absurd (contains_none v among))
             (subst (λ x. IsFlowNode program m x) (sym out) result_flow)
             (subst (λ x. FlowEdge program m x (node_at program m next)) (sym out) leads)
-            (λ v d r no_write. more (RetVal pc) (node_at program m next) (more (Call pc) (RetVal pc) (subst (λ x. Reaches program m v d x) call r) (no_write_at_call program m pc v) into) (subst (λ x. Writes program m x v → ⊥) out no_write) leads);
+            (λ v d r no_write. more (RetVal pc) (node_at program m next) (more (Call pc) (RetVal pc) (subst (λ x. FlowReaches program m v d x) call r) (no_write_at_call program m pc v) into) (subst (λ x. Writes program m x v → ⊥) out no_write) leads);
         locals = ap (λ d. length d.locals.items) adds.definitions ∙ w.locals;
         stack = ap (λ d. length d.stack.items) adds.definitions ∙ w.stack;
       }

@@ -5,9 +5,9 @@ ghost use Rattle.jo_prog.specs.Worked.{native, member, worked_code, worked_class
 ghost use Rattle.jo_prog.specs.PreludeClasses.{object_class};
 ghost use Rattle.flow_graph.specs.Slices.{HasEdgesInside};
 
-use dep_nodes::{Graph, NodeKind};
 use crate::sdg::build;
 use crate::slicer::find_walk;
+use dep_nodes::{Graph, NodeKind};
 use jo_ids::{ClassId, LevelId, List, Memory, MethodId, NodeId};
 use jo_prog::labels::{Label, Labels};
 use jo_prog::program::{Class, Code, MemberRef, Method, Operand, Program, TypeRef};

@@ -217,7 +217,7 @@ module _ (program : Program) (labels : Labels) (code : Code) (found_code : code_
         later (Call pc) (RetVal pc) (no_write_at_call program m pc v) into
         (later (RetVal pc) to (λ w. none ((result_place program m pc h 0 1 v w has call.counts call.gives).1 ∙ ap (λ i. Stack i) off)) out need) in
         let relevant : New (Stack h) → Relevant (RetVal pc) = λ need.
-        needed_writer program labels Relevant closed (Stack h) (RetVal pc) to there (subst (λ i. Writes program m (RetVal pc) (Stack i)) off (by_result pc h 0 has call.counts call.gives)) out need in
+        needed_writer program labels Relevant closed (Stack h) (RetVal pc) to there (by_result pc h 0 (Stack h) has call.counts call.gives (ap (λ i. Stack i) (sym off))) out need in
         let place = slice_index cursors s in
         let other_place = slice_index other_cursors s in
         let moved = set cursors s (place + 1) in
@@ -269,7 +269,7 @@ module _ (program : Program) (labels : Labels) (code : Code) (found_code : code_
         let there : IsFlowNode program m (RetVal pc) = flow_on program m Entry (Call pc) (RetVal pc) here into in
         let out : FlowEdge program m (RetVal pc) to = arrives_at pc next k to found call.native refl in
         let top : h - 1 + 0 ≡ length under = omega arith in
-        let argument : ArgumentPlace program m pc 0 (Stack (length under)) = subst (λ i. ArgumentPlace program m pc 0 (Stack i)) top (of_argument pc h 1 0 has call.counts (omega arith)) in
+        let argument : ArgumentPlace program m pc 0 (Stack (length under)) = of_argument pc h 1 0 (Stack (length under)) has call.counts (omega arith) (ap (λ i. Stack i) (sym top)) in
         let Old : Place → Type 0 = λ v. IsNeeded program m Relevant v (Call pc) in
         let New : Place → Type 0 = λ v. IsNeeded program m Relevant v to in
         let keep : (v : Place) → New v → Old v = λ v need.

@@ -24,7 +24,8 @@ use Rattle.jo_prog.specs.Values.{Value}
 use Rattle.jo_prog.specs.Machine.{Frame, State, Stepped, step, first_frame, start}
 use Rattle.dep_nodes.specs.declared.kinds.NodeKind.{NodeKind}
 use Rattle.dep_nodes.specs.declared.kinds.NodeKind.TheVariants.{Entry, Call, RetVal}
-use Rattle.dependence.specs.Flow.{node_at, begins, stays, steps, IsFlowNode}
+use Rattle.dependence.specs.Paths.{stays, steps}
+use Rattle.dependence.specs.Flow.{node_at, begins, IsFlowNode}
 use Rattle.dependence.specs.Graph.{node, at_entry, label_at}
 use Rattle.flow_graph.proofs.PlainReaching.{root}
 use Rattle.flow_graph.proofs.PlainSteps.{cursor_callee, cursor_flow}

@@ -10,8 +10,8 @@ use Rattle.dep_nodes.specs.declared.kinds.NodeKind.{NodeKind}
 use Rattle.dep_nodes.specs.declared.kinds.NodeKind.TheVariants.{Call, Arg}
 use Rattle.dep_nodes.specs.declared.kinds.EdgeKind.{EdgeKind}
 use Rattle.dep_nodes.specs.declared.kinds.EdgeKind.TheVariants.{Data, Control, Out, Arg as ArgEdge, Call as CallEdge, Ret, Heap, Fork}
-use Rattle.dependence.specs.Flow.{FlowEdge, IsFlowNode, Reads, Writes, ArgumentPlace}
-use Rattle.dependence.specs.Dependence.{Reaches, one, more}
+use Rattle.dependence.specs.Flow.{FlowEdge, IsFlowNode, Reads, Writes, ArgumentPlace, FlowReaches}
+use Rattle.dependence.specs.Dependence.{one, more}
 use Rattle.dependence.specs.Graph.{Node, node, at_entry, DependenceEdge, used, passed as passed_edge}
 use Rattle.dependence.specs.Chains.{CallSite, Link, open_after, IsChainFrom, end_of}
 use Rattle.flow_graph.proofs.PlainReaching.{root}
@@ -99,7 +99,7 @@ relevant_by_data program labels observer d n edge relevant = within (node (root 
 
 module _ (program : Program) (labels : Labels) (Relevant : NodeKind → Type 0) (closed : IsClosed program labels Relevant) where
   -- a definition that reaches a node where its place is needed is relevant
-  pub needed_definition : (v : Place) (d n : NodeKind) → IsFlowNode program labels.entry d → Reaches program labels.entry v d n → IsNeeded program labels.entry Relevant v n → Relevant d
+  pub needed_definition : (v : Place) (d n : NodeKind) → IsFlowNode program labels.entry d → FlowReaches program labels.entry v d n → IsNeeded program labels.entry Relevant v n → Relevant d
   needed_definition v d n flow reach (read k reads relevant) = closed d k (used (root labels) d k v at_entry flow reach reads) relevant
   needed_definition v d n flow reach (passed pc a place relevant) = closed d (Arg pc a) (passed_edge (root labels) d pc a v at_entry flow reach place) relevant
   needed_definition v d n flow reach (later k next none edge rest) = needed_definition v d next flow (more k next reach none edge) rest

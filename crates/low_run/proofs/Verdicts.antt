@@ -14,7 +14,8 @@ use Rattle.dep_nodes.specs.declared.graphs.Graph.{Graph}
 use Rattle.dep_nodes.specs.declared.chains.Chain.{Chain}
 use Rattle.jo_prog.specs.declared.operations.Operation.{Operation}
 use Rattle.jo_prog.specs.declared.operations.Operation.TheVariants.{Constant, Load, Store, Add, Subtract, InvokeStatic, Return, Other}
-use Rattle.dependence.specs.Flow.{IsFlowNode, FlowEdge, begins, skips, falls, leaves, calls, arrives, Path, stays, steps, node_at, node_of}
+use Rattle.dependence.specs.Paths.{stays, steps}
+use Rattle.dependence.specs.Flow.{IsFlowNode, FlowEdge, begins, skips, falls, leaves, calls, arrives, node_at, node_of, FlowPath}
 use Rattle.dependence.specs.Graph.{Instance, Node, node, IsNode, of_flow, of_argument, of_kind, of_thrown, IsReached, label_at}
 use Rattle.dependence.specs.Chains.{end_of}
 use Rattle.dependence.specs.GraphData.{graph_node, node_named, resolved_of, links_of, walk_end, WalksTo, IsDependenceGraph}
@@ -120,7 +121,7 @@ no_edge program m a b pc k (leaves p q found) e = absurd (cc)
 no_edge program m a b pc k (calls p q i found native) e = absurd (cc)
 no_edge program m a b pc k (arrives p q i n found native at) e = no_argument_at program m q pc k (at ∙ e)
 
-no_path : (program : Program) (m : ℕ) (a b : NodeKind) (pc k : ℕ) → Path program m a b → b ≡ Arg pc k → (a ≡ Arg pc k → ⊥) → ⊥
+no_path : (program : Program) (m : ℕ) (a b : NodeKind) (pc k : ℕ) → FlowPath program m a b → b ≡ Arg pc k → (a ≡ Arg pc k → ⊥) → ⊥
 no_path program m a b pc k (stays n) e free = free e
 no_path program m a c pc k (steps x y z first path) e free = no_path program m y z pc k path e (no_edge program m x y pc k first)
 
