@@ -5,7 +5,7 @@ ghost use Rattle.std.specs.List.{list_any};
 ghost use Rattle.toml.specs.Data.{Members, no_members, get_member, as_str};
 ghost use Rattle.toml.specs.View.{view, items_view, table_view};
 ghost use Rattle.toml.specs.Parse.{parse_document};
-ghost use Rattle.class_pool.specs.ClassOrder.{has_flag as is_set};
+ghost use Rattle.jo_insn.specs.AccessFlags.{has_flag as is_set};
 ghost use Rattle.jo_prog.specs.Labels.{label_among as first_label_of};
 ghost use Rattle.jo_prog.specs.Linking.{count_from};
 ghost use Rattle.jo_prog.specs.PlainCode.{desc_for as shape_of, IsWellLabelled};
