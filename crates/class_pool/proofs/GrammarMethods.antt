@@ -13,7 +13,8 @@ use Rattle.class_pool.specs.declared.faults.ClassCode.{ClassCode}
 use Rattle.class_pool.specs.Items.{place_of, bytes_of}
 use Rattle.class_pool.specs.Pool.{utf8_at, first_failing}
 use Rattle.class_pool.specs.Code.{is_wide_desc}
-use Rattle.class_pool.specs.ClassOrder.{has_flag, native_flag, abstract_flag, synchronized_flag, is_named, read_code, method_attributes, method_questions, first_code, read_method}
+use Rattle.jo_insn.specs.AccessFlags.{has_flag, native_flag, abstract_flag, synchronized_flag}
+use Rattle.class_pool.specs.ClassOrder.{is_named, read_code, method_attributes, method_questions, first_code, read_method}
 use Rattle.class_pool.specs.ClassGrammar.{u2, u4, SpellsEach, Attribute, SpellsAttribute, HasCodes, no_code, not_code, code_attribute, codes_in, HasBody, Runs, SpellsMethod}
 use Rattle.class_pool.proofs.GrammarMany.{EachIsSpelled, EachIsRead, counted}
 use Rattle.class_pool.proofs.GrammarParts.{named_decided, SpellsAttributeHead, attribute_head_read, attribute_of, attribute_again, SpellsHead, head_read, head_again}

@@ -19,7 +19,8 @@ use Rattle.class_pool.specs.Items.{◌>>=◌, place_of, number, bytes_of, many}
 use Rattle.class_pool.specs.Pool.{entry_at, utf8_at, class_name_at, is_text, is_text_that}
 use Rattle.class_pool.specs.Code.{dims_of, has_dims_that, dims_at}
 use Rattle.class_pool.specs.ClassOrder
-use Rattle.class_pool.specs.ClassOrder.{has_flag, static_flag, class_index, text_index, fits_kind, read_head, skip_attribute, skip_attributes, is_named, fits_constant, field_attribute, field_attributes, read_field}
+use Rattle.jo_insn.specs.AccessFlags.{has_flag, static_flag}
+use Rattle.class_pool.specs.ClassOrder.{class_index, text_index, fits_kind, read_head, skip_attribute, skip_attributes, is_named, fits_constant, field_attribute, field_attributes, read_field}
 use Rattle.class_pool.specs.ClassGrammar.{u2, u4, SpellsEach, Attribute, SpellsAttribute, AreAttributes, IsConstantValue, HasConstant, no_constant, not_constant, constant_value, SpellsField, SpellsClassIndex}
 use Rattle.class_pool.proofs.GrammarNumbers.{Takes, Yields, yields, by_answer, ends, fails, then_read, when, either, joined, split, step, pass, number_read, number_again, SpellsBytes, bytes_read, bytes_again}
 use Rattle.class_pool.proofs.GrammarMany.{EachIsSpelled, EachIsRead, counted, many_read, many_again}

@@ -21,7 +21,8 @@ use Rattle.class_pool.specs.declared.classes.CodeInfo.{CodeInfo}
 use Rattle.class_pool.specs.declared.classes.RowInfo.{RowInfo}
 use Rattle.class_pool.specs.Pool.{entry_at, utf8_at, class_name_at, desc_at, is_double}
 use Rattle.class_pool.specs.Code.{Placed, is_wide_desc, dims_of, insn_fault, jumps_of, canonical_code}
-use Rattle.class_pool.specs.ClassOrder.{has_flag, static_flag, synchronized_flag, native_flag, abstract_flag, fits_constant}
+use Rattle.jo_insn.specs.AccessFlags.{has_flag, static_flag, synchronized_flag, native_flag, abstract_flag}
+use Rattle.class_pool.specs.ClassOrder.{fits_constant}
 
 -- numbers in one, two, four and eight bytes, the highest first
 abbrev pub u1 : ℕ → List ℕ

@@ -1,8 +1,9 @@
 -- A class file from its first byte to its last (JVM Specification SE 8, 4.1 to 4.7), in the order in which its items are
 -- read and checked: the class, or the first fault with its place. The order, the codes and the places are this project's own.
-use Rattle.std.specs.Prelude.{ℕ, zero, suc, ◌+◌, ◌-◌, ◌*◌, Bool, true, false, ◌&&◌, ◌||◌, not, nat_lt, nat_le, ◌==◌, if◌then◌else◌, List, [], ◌∷◌, length, bit_and, Option, Some, None, Result, Ok, Err, codes}
+use Rattle.std.specs.Prelude.{ℕ, zero, suc, ◌+◌, ◌-◌, ◌*◌, Bool, true, false, ◌&&◌, ◌||◌, not, nat_lt, nat_le, ◌==◌, if◌then◌else◌, List, [], ◌∷◌, length, Option, Some, None, Result, Ok, Err, codes}
 use Rattle.std.specs.Str.{bytes_eq}
 use Rattle.jo_text.specs.Tests.{is_member_name, is_field_desc, is_method_desc}
+use Rattle.jo_insn.specs.AccessFlags.{has_flag, static_flag, synchronized_flag, native_flag, abstract_flag}
 use Rattle.class_pool.specs.declared.entries.PoolEntry.{PoolEntry}
 use Rattle.class_pool.specs.declared.entries.PoolEntry.TheVariants.{Integer, Float, Long, Double, Text}
 use Rattle.class_pool.specs.declared.classes.MemberKind.{MemberKind}
@@ -19,23 +20,6 @@ use Rattle.class_pool.specs.declared.faults.ClassFault.{ClassFault}
 use Rattle.class_pool.specs.Items.{◌>>=◌, place_of, fault, passing, number, bytes_of, two_numbers, many}
 use Rattle.class_pool.specs.Pool.{entry_at, utf8_at, is_text_that, is_text, first_failing, read_pool_from}
 use Rattle.class_pool.specs.Code.{Placed, is_wide_desc, has_dims_that, dims_at, insns_of, first_bad_jump, row_fault, canonical_code}
-
--- ---- flags (4.1, 4.5, 4.6)
-
-abbrev pub has_flag : ℕ → ℕ → Bool
-has_flag flag flags = not (bit_and flags flag == 0)
-
-abbrev pub static_flag : ℕ
-static_flag = 0x0008
-
-abbrev pub synchronized_flag : ℕ
-synchronized_flag = 0x0020
-
-abbrev pub native_flag : ℕ
-native_flag = 0x0100
-
-abbrev pub abstract_flag : ℕ
-abstract_flag = 0x0400
 
 -- ---- parts
 

@@ -5,10 +5,11 @@ ghost use Rattle.class_pool.specs.Pool.{entry_at as entry_with, utf8_at as utf8_
 ghost use Rattle.class_pool.specs.ClassOrder.{fits_constant as passes_constant, constant_value as read_constant, field_attribute as read_attribute, field_attributes as read_attributes, read_field};
 ghost use Rattle.class_pool.specs.Outcomes.{Gives};
 
-use crate::parts::{STATIC, has_flag, head, is_named, text_index};
+use crate::parts::{head, is_named, text_index};
 use class_pool::items::{bytes_of, fault_at, number_of_four, number_of_two, place_of};
 use class_pool::{ClassCode, FieldInfo, KnownPool, MemberKind, PoolEntry, Stop, entry_at, utf8_at};
 use jo_ids::List;
+use jo_insn::{ACC_STATIC, has_flag};
 use std::alloc::Global;
 
 /// Whether a field with this descriptor may have the constant.
@@ -80,7 +81,7 @@ fn field_attribute<'a>(
     let (flags, _, desc) = head;
     let (name, count_rest) = text_index(size, pool, rest)?;
     let (count, rest) = number_of_four(size, count_rest)?;
-    if has_flag(STATIC, flags) && is_named(pool, b"ConstantValue", name) {
+    if has_flag(ACC_STATIC, flags) && is_named(pool, b"ConstantValue", name) {
         return constant_value(
             size,
             pool,

@@ -7,10 +7,11 @@ ghost use Rattle.class_pool.specs.Outcomes.{Gives};
 ghost use Rattle.class_read.specs.Methods.{method_attribute as read_attribute};
 
 use crate::code::code;
-use crate::parts::{ABSTRACT, NATIVE, SYNCHRONIZED, has_flag, head, is_named, text_index};
+use crate::parts::{head, is_named, text_index};
 use class_pool::items::{bytes_of, fault_at, number_of_four, number_of_two, place_of};
 use class_pool::{ClassCode, CodeInfo, Cut, KnownPool, MemberKind, MethodInfo, Stop};
 use jo_ids::List;
+use jo_insn::{ACC_ABSTRACT, ACC_NATIVE, ACC_SYNCHRONIZED, has_flag};
 use std::alloc::{AllocError, Global};
 
 /// The Code of an attribute, where it is one, and what follows.
@@ -61,14 +62,14 @@ fn method_attributes<'a>(
 fn method_fault(wide: bool, flags: u16, codes: &[CodeInfo]) -> Option<ClassCode>
     ensures { result ≡ first_failing (method_questions wide flags codes.now) }
 {
-    let is_native = has_flag(NATIVE, flags);
+    let is_native = has_flag(ACC_NATIVE, flags);
     if wide && (is_native || !codes.is_empty()) {
         return Some(ClassCode::Unsupported(Cut::WideType));
     }
-    if has_flag(SYNCHRONIZED, flags) {
+    if has_flag(ACC_SYNCHRONIZED, flags) {
         return Some(ClassCode::Unsupported(Cut::Synchronized));
     }
-    let bodies = if is_native || has_flag(ABSTRACT, flags) {
+    let bodies = if is_native || has_flag(ACC_ABSTRACT, flags) {
         0
     } else {
         1

@@ -1,29 +1,13 @@
 //! Reads what fields, methods and attributes begin with.
-ghost use Rattle.std.specs.Prelude.{◌≡◌, ◌==◌};
+ghost use Rattle.std.specs.Prelude.{◌≡◌};
 ghost use Rattle.std.specs.Str.{bytes_eq};
 ghost use Rattle.class_pool.specs.Pool.{is_text, is_text_that, utf8_at as utf8_with};
 ghost use Rattle.class_pool.specs.Code.{dims_of as count_dims, has_dims_that, dims_at as dims_with};
-ghost use Rattle.class_pool.specs.ClassOrder.{has_flag as flag_is_set, class_index as index_of_class, text_index as index_of_text, fits_kind as passes_kind, read_head, attribute_head as head_of_attribute, skip_attribute as past_attribute, skip_attributes as past_attributes, is_named as has_name};
+ghost use Rattle.class_pool.specs.ClassOrder.{class_index as index_of_class, text_index as index_of_text, fits_kind as passes_kind, read_head, attribute_head as head_of_attribute, skip_attribute as past_attribute, skip_attributes as past_attributes, is_named as has_name};
 ghost use Rattle.class_pool.specs.Outcomes.{Gives};
 
 use class_pool::items::{bytes_of, fault_at, number_of_four, number_of_two, place_of};
 use class_pool::{ClassCode, KnownPool, MemberKind, Stop, class_name_at, utf8_at};
-
-// Flags of fields and methods (4.5, 4.6).
-pub const STATIC: u16 = 0x0008;
-
-pub const SYNCHRONIZED: u16 = 0x0020;
-
-pub const NATIVE: u16 = 0x0100;
-
-pub const ABSTRACT: u16 = 0x0400;
-
-/// Whether the flag is set.
-pub fn has_flag(flag: u16, flags: u16) -> bool
-    ensures { result ≡ flag_is_set flag flags }
-{
-    flags & flag != 0
-}
 
 /// How many array dimensions a name of a Class entry has.
 pub fn dims_of(name: &[u8]) -> usize

@@ -15,7 +15,8 @@ use Rattle.class_pool.specs.declared.classes.CodeInfo.{CodeInfo}
 use Rattle.class_pool.specs.declared.classes.RowInfo.{RowInfo}
 use Rattle.class_pool.specs.Pool.{utf8_of, utf8_at, entry_at}
 use Rattle.class_pool.specs.Code.{canonical_code}
-use Rattle.class_pool.specs.ClassOrder.{has_flag, static_flag, fits_constant}
+use Rattle.jo_insn.specs.AccessFlags.{has_flag, static_flag}
+use Rattle.class_pool.specs.ClassOrder.{fits_constant}
 use Rattle.class_pool.specs.Writing.{spelled_entry}
 use Rattle.class_pool.specs.ClassGrammar.{u2, u4, SpellsEach, SpellsEntry, SpellsEntries, no_entry, single, twofold, Attribute, SpellsAttribute, SpellsAttributes, HasConstant, no_constant, not_constant, constant_value, SpellsField, SpellsRow, SpellsCode, HasCodes, no_code, not_code, code_attribute, codes_in, SpellsMethod, SpellsClassIndex, IsClass}
 use Rattle.class_write.specs.Spelling.{is_text_of, index_from, text_index, counted, spelled_constant, spelled_field, spelled_row, code_size, spelled_content, spelled_code, spelled_method, spelled_class, HasText, FitsContent}

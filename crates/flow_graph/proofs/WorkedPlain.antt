@@ -5,7 +5,7 @@ use Rattle.std.proofs.lemmas.Option.{none-some, same_Some}
 use Rattle.jo_insn.specs.Opcodes.{opcodes, row_of}
 use Rattle.jo_insn.specs.Instructions.{decoded}
 use Rattle.jo_prog.specs.Operations.{operation_of}
-use Rattle.class_pool.specs.ClassOrder.{has_flag, native_flag}
+use Rattle.jo_insn.specs.AccessFlags.{has_flag, native_flag}
 use Rattle.jo_prog.specs.declared.operations.Operation.TheVariants.{Constant, Load, Store, Add, InvokeStatic}
 use Rattle.jo_prog.specs.declared.program.Method.{Method}
 use Rattle.jo_prog.specs.Labels.{label_of}

@@ -1,3 +1,4 @@
+pub mod AccessFlags
 pub mod Opcodes
 pub mod ArrayKinds
 pub mod Instructions

@@ -1,9 +1,10 @@
 //! The instructions of the Java Virtual Machine that the profile has (JVM Specification SE 8, chapter 6): the tables of
-//! opcodes and of array kinds, and how instructions are read from code and written.
+//! opcodes and of array kinds, and how instructions are read from code and written; and the access flags.
 //!
 //! `laws` has what holds of the definitions: what is read is spelled so, and what is spelled so is read.
 #![tactic(auto)]
 
+mod access_flags;
 mod array_kinds;
 mod decoder;
 mod encoder;
@@ -11,6 +12,9 @@ mod instructions;
 pub mod laws;
 mod opcodes;
 
+pub use access_flags::{
+    ACC_ABSTRACT, ACC_NATIVE, ACC_STATIC, ACC_SYNCHRONIZED, flags_have_numbers, has_flag,
+};
 pub use array_kinds::{kind_named, name_of_kind};
 pub use decoder::decode;
 pub use encoder::encode;

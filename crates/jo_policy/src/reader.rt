@@ -5,7 +5,6 @@ ghost use Rattle.std.specs.List.{list_any};
 ghost use Rattle.toml.specs.Data.{Members, no_members, get_member, as_str};
 ghost use Rattle.toml.specs.View.{view, items_view, table_view};
 ghost use Rattle.toml.specs.Parse.{parse_document};
-ghost use Rattle.class_pool.specs.ClassOrder.{has_flag as is_set};
 ghost use Rattle.jo_prog.specs.Labels.{label_among as first_label_of};
 ghost use Rattle.jo_prog.specs.Numbers.{count_from};
 ghost use Rattle.jo_prog.specs.PlainCode.{desc_for as shape_of, IsWellLabelled};
@@ -13,27 +12,16 @@ ghost use Rattle.jo_prog.specs.Program.{method_at};
 ghost use Rattle.jo_policy.specs.PolicyFile.{known_keys, keys_are_known as all_known, texts_in, are_few_levels as are_few, levels_of, place_from, level_named as named_level, pair_of, pairs_of, flows_of, spellings_of, is_entry as can_enter, entry_with, entry_of, table_of, labels_are_good as all_good, are_apart as all_apart, label_in as label_by, label_for as label_given, labelled_from, fits_label as fits_it, labels_fit_from, labelled_of, labels_with, policy_of};
 
 use jo_ids::{Id, LevelId, List, Memory, MethodId};
+use jo_insn::{ACC_NATIVE, ACC_STATIC, has_flag};
 use jo_prog::labels::{Label, Labels};
+use jo_prog::lists::add;
 use jo_prog::program::{Method, Program};
 use jo_prog::spelling::push_spelled;
 use jo_text::Name;
 use std::alloc::{AllocError, Global};
 use toml::{Table, Value};
 
-const STATIC: u16 = 0x0008;
-
-const NATIVE: u16 = 0x0100;
-
 // ---- names and lists
-
-fn add<T: Drop>(list: &mut List<T>, item: T) -> Result<(), Memory>
-    ensures { OnOk result (list.new ≡ list.old ++ item ∷ []) }
-{
-    match list.push(item) {
-        Ok(()) => Ok(()),
-        Err((_, memory)) => Err(memory),
-    }
-}
 
 fn copy_name(alloc: Global, text: &[u8]) -> Result<Name, Memory>
     ensures { IfOk result (λ name. name ≡ text.now) }
@@ -220,16 +208,10 @@ fn spell_methods(alloc: Global, program: &Program) -> Result<List<Name>, Memory>
     Ok(spellings)
 }
 
-fn has_flag(flags: u16, flag: u16) -> bool
-    ensures { result ≡ is_set flag flags }
-{
-    flags & flag != 0
-}
-
 fn is_entry(method: &Method) -> bool
     ensures { result ≡ can_enter method.now }
 {
-    has_flag(method.flags, STATIC)
+    has_flag(ACC_STATIC, method.flags)
         && method.code.is_some()
         && method.desc.as_slice() == b"()V".as_slice()
 }
@@ -397,10 +379,10 @@ fn fits_label(method: &Method, label: Option<Label>) -> bool
     ensures { result ≡ fits_it method.now label }
 {
     match label {
-        None => !has_flag(method.flags, NATIVE),
+        None => !has_flag(ACC_NATIVE, method.flags),
         Some(label) => {
-            has_flag(method.flags, STATIC)
-                && has_flag(method.flags, NATIVE)
+            has_flag(ACC_STATIC, method.flags)
+                && has_flag(ACC_NATIVE, method.flags)
                 && method.code.is_none()
                 && method.desc.as_slice() == desc_for(label)
         }

@@ -7,7 +7,7 @@ use Rattle.std.specs.Str.{IsUtf8}
 use Rattle.toml.specs.Data.{Members}
 use Rattle.toml.specs.Parse.{parse_document}
 use Rattle.class_pool.specs.ClassGrammar.{SpellsEach}
-use Rattle.class_pool.specs.ClassOrder.{has_flag, native_flag}
+use Rattle.jo_insn.specs.AccessFlags.{has_flag, native_flag}
 use Rattle.class_pool.specs.ClassGrammar.{SpellsMethod, SpellsCode, Attribute, HasCodes, no_code, not_code, code_attribute, codes_in}
 use Rattle.class_pool.specs.declared.entries.PoolEntry.{PoolEntry}
 use Rattle.class_pool.specs.declared.classes.ClassFile.{ClassFile}

@@ -1,6 +1,6 @@
 -- What the decision over a class and a policy says of the program that they make.
 use Rattle.std.specs.Prelude.{◌≡◌, ◌⊎◌, ℕ, true, false, List, Some, slice_get}
-use Rattle.class_pool.specs.ClassOrder.{has_flag, native_flag}
+use Rattle.jo_insn.specs.AccessFlags.{has_flag, native_flag}
 use Rattle.class_pool.specs.ClassGrammar.{IsClass}
 use Rattle.class_pool.specs.declared.classes.ClassFile.{ClassFile}
 use Rattle.jo_prog.specs.declared.program.Method.{Method}

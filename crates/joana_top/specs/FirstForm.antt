@@ -4,7 +4,7 @@ use Rattle.std.specs.List.{list_any, list_all}
 use Rattle.std.specs.Str.{IsUtf8, bytes_eq}
 use Rattle.toml.specs.Data.{Members}
 use Rattle.toml.specs.Parse.{parse_document}
-use Rattle.class_pool.specs.ClassOrder.{has_flag, native_flag}
+use Rattle.jo_insn.specs.AccessFlags.{has_flag, native_flag}
 use Rattle.class_pool.specs.ClassGrammar.{IsClass}
 use Rattle.class_pool.specs.declared.classes.ClassFile.{ClassFile}
 use Rattle.class_pool.specs.declared.classes.CodeInfo.{CodeInfo}

@@ -1,5 +1,5 @@
 use Rattle.std.proofs.Common.{◌≡◌, ◌⊎◌, ℕ, ◌<◌, Some, true, slice_get}
-use Rattle.class_pool.specs.ClassOrder.{has_flag, native_flag}
+use Rattle.jo_insn.specs.AccessFlags.{has_flag, native_flag}
 use Rattle.jo_prog.specs.declared.program.Method.{Method}
 use Rattle.joana_top.proofs.check.has_one_code.Given as goal
 
