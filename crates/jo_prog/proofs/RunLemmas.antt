@@ -77,15 +77,15 @@ module _ (program : Program) (labels : Labels) (inputs : List SourceInput) (s : 
   after_operation t f below (Some (Return, next)) = after_executed t f below next Return
   after_operation t f below (Some (Other, next)) = after_executed t f below next Other
 
-  after_frames : (t : ℕ) (frames : List Frame) (pending : Option ℕ) → GaveAtMost (most + 1) (unmoved s (step_thread program labels inputs s t (Some (record { frames = frames; pending = pending })))).state.cursors
-  after_frames t [] None = one_more most s.cursors h
-  after_frames t [] (Some a) = one_more most s.cursors h
-  after_frames t (f ∷ below) (Some a) = one_more most s.cursors h
-  after_frames t (f ∷ below) None = after_operation t f below (operation_at program f.method f.pc)
+  after_frames : (t : ℕ) (frames : List Frame) (pending object : Option ℕ) → GaveAtMost (most + 1) (unmoved s (step_thread program labels inputs s t (Some (record { frames = frames; pending = pending; object = object })))).state.cursors
+  after_frames t [] None object = one_more most s.cursors h
+  after_frames t [] (Some a) object = one_more most s.cursors h
+  after_frames t (f ∷ below) (Some a) object = one_more most s.cursors h
+  after_frames t (f ∷ below) None object = after_operation t f below (operation_at program f.method f.pc)
 
   after_thread : (t : ℕ) (thread : Option Thread) → GaveAtMost (most + 1) (unmoved s (step_thread program labels inputs s t thread)).state.cursors
   after_thread t None = one_more most s.cursors h
-  after_thread t (Some thread) = after_frames t thread.frames thread.pending
+  after_thread t (Some thread) = after_frames t thread.frames thread.pending thread.object
 
   after_pick : (number : ℕ) (ts : List ℕ) → GaveAtMost (most + 1) (advanced_by program labels inputs s number ts).state.cursors
   after_pick number [] = one_more most s.cursors h
@@ -128,16 +128,16 @@ run_more program labels inputs s i schedule events more stepped whole so_far ins
     ∙ behind-shown events stepped.event rest
     ∙ ap (λ es. behind es rest) (sym shown)
 
-all_ended-one : (ended : Bool) (f : Frame) → all_ended (record { frames = frames_of ended f; pending = None } ∷ []) ≡ ended
+all_ended-one : (ended : Bool) (f : Frame) → all_ended (record { frames = frames_of ended f; pending = None; object = None } ∷ []) ≡ ended
 all_ended-one true f = refl
 all_ended-one false f = refl
 
 -- the whole schedule
 pub run_all : (program : Program) (labels : Labels) (inputs : List SourceInput) (cursors : List ℕ) (ended : Bool) (f : Frame) (i : ℕ) (schedule : List ℕ) (events : List Event) (whole : Trace)
-    → whole ≡ behind events (run_from program labels inputs (with_thread cursors (frames_of ended f)) (drop i schedule)) → length schedule ≤ i
+    → whole ≡ behind events (run_from program labels inputs (with_thread program labels cursors (frames_of ended f)) (drop i schedule)) → length schedule ≤ i
     → record { events = events; ended = ended } ≡ whole
 run_all program labels inputs cursors ended f i schedule events whole so_far end =
-    let s = with_thread cursors (frames_of ended f) in
+    let s = with_thread program labels cursors (frames_of ended f) in
     let last = ap (λ (numbers : List ℕ). run_from program labels inputs s numbers) (drop_all i schedule end) ∙ run_from-nil program labels inputs s in
     sym (so_far ∙ ap (λ (t : Trace). behind events t) last
     ∙ ap (λ es. let t : Trace = record { events = es; ended = all_ended s.threads } in t) (append-nil events)

@@ -5,6 +5,7 @@ pub mod Numbers
 pub mod PreludeClasses
 pub mod Typing
 pub mod Values
+pub mod Constants
 pub mod Machine
 pub mod Runs
 pub mod PlainCode

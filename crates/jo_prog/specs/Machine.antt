@@ -1,7 +1,8 @@
 -- The interleaving machine: its states, and one step of one thread (JVM Specification SE 8, 2.5, 2.6 and chapter 6). It is
 -- stepped over plain code. A source, a sink and a release are what the policy says (this project's own).
 -- A thread without frames has ended. No exception is raised by plain code, so a pending one has no step yet.
-use Rattle.std.specs.Prelude.{ℕ, ◌+◌, ℤ, pos, Bool, ◌==◌, nat_le, if◌then◌else◌, List, [], ◌∷◌, ◌++◌, length, take, drop, replicate, Option, Some, None, slice_get, slice_set, slice_index, slice_index_or}
+use Rattle.std.specs.Prelude.{ℕ, ◌+◌, ℤ, pos, Bool, true, false, ◌==◌, nat_le, if◌then◌else◌, List, [], ◌∷◌, ◌++◌, length, map, take, drop, replicate, Option, Some, None, slice_get, slice_set, slice_index, slice_index_or}
+use Rattle.jo_text.specs.declared.descriptors.Base.TheVariants.{Class}
 use Rattle.jo_prog.specs.declared.operations.Operation.{Operation}
 use Rattle.jo_prog.specs.declared.operations.Operation.TheVariants.{Constant, Load, Store, Add, Subtract, InvokeStatic, Return, Other}
 use Rattle.jo_prog.specs.declared.labels.Label.{Label}
@@ -13,8 +14,10 @@ use Rattle.jo_prog.specs.declared.runs.SourceInput.{SourceInput}
 use Rattle.jo_prog.specs.declared.runs.Event.{Event}
 use Rattle.jo_prog.specs.declared.runs.Event.TheVariants.{Out, Release as Released}
 use Rattle.jo_prog.specs.Labels.{label_of}
-use Rattle.jo_prog.specs.Program.{code_at, operation_at, callee_at}
-use Rattle.jo_prog.specs.Values.{Value, int, Info, object, Effect, pushes, stores, returns, Outcome, exec}
+use Rattle.jo_prog.specs.Program.{method_at, code_at, operation_at, callee_at}
+use Rattle.jo_prog.specs.PreludeClasses.{string_name, string_class}
+use Rattle.jo_prog.specs.Values.{Value, int, ref, Info, object, array, Effect, pushes, stores, returns, Outcome, exec}
+use Rattle.jo_prog.specs.Constants.{string_constants, first_value, takes_arguments, arguments_address}
 
 -- a frame; the stack's top comes first, and a local that isn't set has no value
 pub record Frame : Type 0 where
@@ -23,10 +26,12 @@ pub record Frame : Type 0 where
   pub locals : List (Option (Value ℕ))
   pub stack : List (Value ℕ)
 
--- its frames, the top one first, and the address of an exception that is on its way
+-- Its frames, the top one first, the address of an exception that is on its way, and that of its thread object, which the
+-- first thread hasn't.
 pub record Thread : Type 0 where
   pub frames : List Frame
   pub pending : Option ℕ
+  pub object : Option ℕ
 
 -- an object with its fields by number, or an array with its elements; whether a thread object was started
 pub record HeapObject : Type 0 where
@@ -91,9 +96,18 @@ abbrev pub execute : (ℕ → Info) → Frame → List Frame → ℕ → Operati
 execute info f below next operation None = None
 execute info f below next operation (Some found) = apply_outcome f below next found.1 (exec operation info None found.0)
 
+abbrev pub object_of : Option Thread → Option ℕ
+object_of None = None
+object_of (Some thread) = thread.object
+
 -- the state with other frames in the thread that stepped
 abbrev pub with_frames : State → ℕ → List Frame → State
-with_frames s t frames = record { heap = s.heap; statics = s.statics; cursors = s.cursors; threads = slice_set s.threads t (record { frames = frames; pending = None }) }
+with_frames s t frames = record {
+  heap = s.heap;
+  statics = s.statics;
+  cursors = s.cursors;
+  threads = slice_set s.threads t (record { frames = frames; pending = None; object = object_of (slice_get s.threads t) });
+}
 
 abbrev pub silent : State → ℕ → Option (List Frame) → Option Stepped
 silent s t None = None
@@ -153,15 +167,37 @@ step program labels inputs s t = step_thread program labels inputs s t (slice_ge
 
 -- ---- the first state
 
-abbrev pub first_frame : ℕ → Option Code → List Frame
-first_frame m None = []
-first_frame m (Some code) = record { method = m; pc = 0; locals = replicate code.max_locals None; stack = [] } ∷ []
+-- a string is an object without content
+abbrev pub string_object : HeapObject
+string_object = record { info = object string_class; fields = []; elements = []; started = false }
 
--- one thread in the entry method, which has no parameter here; there are no string constants and no static fields
+-- an array of strings without elements
+abbrev pub no_arguments : HeapObject
+no_arguments = record { info = array (record { dims = 0; base = Class string_name }) 0; fields = []; elements = []; started = false }
+
+-- an object for each string constant, and behind them the array where the entry takes one
+unfoldable pub first_heap : Program → Labels → List HeapObject
+first_heap program labels =
+    replicate (length (string_constants program)) string_object ++ (if takes_arguments (method_at program labels.entry) then no_arguments ∷ [] else [])
+
+unfoldable pub first_statics : Program → List (Value ℕ)
+first_statics program = map (first_value program) program.fields
+
+-- no local is set but the first where the entry takes an array, whose address this is
+abbrev pub first_locals : Bool → ℕ → ℕ → List (Option (Value ℕ))
+first_locals false count address = replicate count None
+first_locals true count address = slice_set (replicate count None) 0 (Some (ref address))
+
+abbrev pub first_frame : Program → ℕ → Option Code → List Frame
+first_frame program m None = []
+first_frame program m (Some code) =
+    record { method = m; pc = 0; locals = first_locals (takes_arguments (method_at program m)) code.max_locals (arguments_address program); stack = [] } ∷ []
+
+-- one thread, in the entry method
 abbrev pub start : Program → Labels → State
 start program labels = record {
-  heap = [];
-  statics = [];
+  heap = first_heap program labels;
+  statics = first_statics program;
   cursors = replicate (length program.methods) 0;
-  threads = record { frames = first_frame labels.entry (code_at program labels.entry); pending = None } ∷ [];
+  threads = record { frames = first_frame program labels.entry (code_at program labels.entry); pending = None; object = None } ∷ [];
 }

@@ -6,13 +6,20 @@ use Rattle.jo_prog.specs.declared.program.Class.{Class}
 abbrev pub object_name : List ℕ
 object_name = codes "java/lang/Object"
 
+abbrev pub string_name : List ℕ
+string_name = codes "java/lang/String"
+
+-- the number of java/lang/String, its place among the names below
+abbrev pub string_class : ℕ
+string_class = 1
+
 abbrev pub object_class : Class
 object_class = record { name = object_name; flags = 0x0021; superclass = None; interfaces = []; fields = []; methods = []; operands = [] }
 
 -- the names of the prelude's classes, all of them in java/lang
 abbrev pub prelude_names : List (List ℕ)
 prelude_names =
-    codes "java/lang/Object" ∷ codes "java/lang/String" ∷ codes "java/lang/Runnable" ∷ codes "java/lang/Thread"
+    object_name ∷ string_name ∷ codes "java/lang/Runnable" ∷ codes "java/lang/Thread"
     ∷ codes "java/lang/Throwable" ∷ codes "java/lang/Exception" ∷ codes "java/lang/Error" ∷ codes "java/lang/RuntimeException"
     ∷ codes "java/lang/ArithmeticException" ∷ codes "java/lang/NullPointerException" ∷ codes "java/lang/ClassCastException"
     ∷ codes "java/lang/IndexOutOfBoundsException" ∷ codes "java/lang/ArrayStoreException"

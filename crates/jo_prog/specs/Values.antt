@@ -17,11 +17,14 @@ pub data Info : Type 0 where
   object : ℕ → Info
   array : FieldDesc → ℕ → Info
 
--- a cell of the heap or of the static fields: a field of an object, an element of an array, a static field
+-- a cell: a field of an object, an element of an array, a static field, how many ints a source has given, whether a thread
+-- object was started
 pub data Cell (A : Type 0) : Type 0 where
   field : A → ℕ → Cell A
   element : A → ℕ → Cell A
   static : ℕ → Cell A
+  cursor : ℕ → Cell A
+  started : A → Cell A
 
 -- what comes of an instruction that is no call
 pub data Effect (A : Type 0) : Type 0 where

@@ -52,9 +52,9 @@ pub record Standing (program : Program) (labels : Labels) (code : Code) (Relevan
 
 -- both runs have ended, or both stand at one pc
 pub data Together (program : Program) (labels : Labels) (code : Code) (Relevant : NodeKind → Type 0) : State → State → Type 0 where
-  over : (cursors other_cursors : List ℕ) → Together program labels code Relevant (with_thread cursors []) (with_thread other_cursors [])
+  over : (cursors other_cursors : List ℕ) → Together program labels code Relevant (with_thread program labels cursors []) (with_thread program labels other_cursors [])
   stand : (cursors other_cursors : List ℕ) (pc : ℕ) (locals others : List (Option (Value ℕ))) (stack other_stack : List (Value ℕ)) → Standing program labels code Relevant pc cursors other_cursors locals others stack other_stack
-      → Together program labels code Relevant (with_thread cursors (frame_at labels.entry pc locals stack ∷ [])) (with_thread other_cursors (frame_at labels.entry pc others other_stack ∷ []))
+      → Together program labels code Relevant (with_thread program labels cursors (frame_at labels.entry pc locals stack ∷ [])) (with_thread program labels other_cursors (frame_at labels.entry pc others other_stack ∷ []))
 
 -- neither run shows anything, or both show an int at one call of a sink, the same if the call is relevant
 pub data EventsAlike (program : Program) (labels : Labels) (Relevant : NodeKind → Type 0) : Option Event → Option Event → Type 0 where
@@ -113,21 +113,21 @@ moved_alike program labels Relevant cursors others s alike = record {
 -- an operation that is no call changes the frames alone
 abbrev IsSilent : Program → Labels → ℕ → ℕ → Operation → Type 0
 IsSilent program labels pc next operation = (inputs : List SourceInput) (cursors : List ℕ) (locals : List (Option (Value ℕ))) (stack : List (Value ℕ))
-    → step_operation program labels inputs (with_thread cursors (frame_at labels.entry pc locals stack ∷ [])) 0 (frame_at labels.entry pc locals stack) [] (Some (operation, next))
-    ≡ silent (with_thread cursors (frame_at labels.entry pc locals stack ∷ [])) 0 (executed_in labels.entry pc next operation locals stack (info_at (with_thread cursors (frame_at labels.entry pc locals stack ∷ []))))
+    → step_operation program labels inputs (with_thread program labels cursors (frame_at labels.entry pc locals stack ∷ [])) 0 (frame_at labels.entry pc locals stack) [] (Some (operation, next))
+    ≡ silent (with_thread program labels cursors (frame_at labels.entry pc locals stack ∷ [])) 0 (executed_in labels.entry pc next operation locals stack (info_at (with_thread program labels cursors (frame_at labels.entry pc locals stack ∷ []))))
 
 module _ (program : Program) (labels : Labels) (code : Code) (found_code : code_at program labels.entry ≡ Some code) (typed : IsTypedCode program labels.entry code) (natives : AllByRecursion (IsLabelledNative program labels) labels.labelled)
     (Relevant : NodeKind → Type 0) (closed : IsClosed program labels Relevant) (inputs others : List SourceInput) (agree : AgreeOnRelevant program labels Relevant inputs others) where
   -- the step at an operation that is found, and what it does
   step_found : (ins : List SourceInput) (cursors : List ℕ) (pc next : ℕ) (operation : Operation) (locals : List (Option (Value ℕ))) (stack : List (Value ℕ)) (after : Stepped) → operation_at program labels.entry pc ≡ Some (operation, next)
-      → step_operation program labels ins (with_thread cursors (frame_at labels.entry pc locals stack ∷ [])) 0 (frame_at labels.entry pc locals stack) [] (Some (operation, next)) ≡ Some after
-      → step program labels ins (with_thread cursors (frame_at labels.entry pc locals stack ∷ [])) 0 ≡ Some after
+      → step_operation program labels ins (with_thread program labels cursors (frame_at labels.entry pc locals stack ∷ [])) 0 (frame_at labels.entry pc locals stack) [] (Some (operation, next)) ≡ Some after
+      → step program labels ins (with_thread program labels cursors (frame_at labels.entry pc locals stack ∷ [])) 0 ≡ Some after
   step_found ins cursors pc next operation locals stack after found e =
-      ap (step_operation program labels ins (with_thread cursors (frame_at labels.entry pc locals stack ∷ [])) 0 (frame_at labels.entry pc locals stack) []) found ∙ e
+      ap (step_operation program labels ins (with_thread program labels cursors (frame_at labels.entry pc locals stack ∷ [])) 0 (frame_at labels.entry pc locals stack) []) found ∙ e
 
   -- the states at a pc
   abbrev at_pc : List ℕ → ℕ → List (Option (Value ℕ)) → List (Value ℕ) → State
-  at_pc cursors pc locals stack = with_thread cursors (frame_at labels.entry pc locals stack ∷ [])
+  at_pc cursors pc locals stack = with_thread program labels cursors (frame_at labels.entry pc locals stack ∷ [])
 
   silent_found : (ins : List SourceInput) (cursors : List ℕ) (pc next : ℕ) (operation : Operation) (locals : List (Option (Value ℕ))) (stack : List (Value ℕ)) (new_locals : List (Option (Value ℕ))) (new_stack : List (Value ℕ))
       → operation_at program labels.entry pc ≡ Some (operation, next) → IsSilent program labels pc next operation
@@ -183,8 +183,8 @@ module _ (program : Program) (labels : Labels) (code : Code) (found_code : code_
 
     return_step : operation_at program labels.entry pc ≡ Some (Return, next) → BothStep program labels code Relevant inputs others (at_pc cursors pc locals stack) (at_pc other_cursors pc other_locals other_stack)
     return_step found = record {
-      one = record { state = with_thread cursors []; event = None };
-      other = record { state = with_thread other_cursors []; event = None };
+      one = record { state = with_thread program labels cursors []; event = None };
+      other = record { state = with_thread program labels other_cursors []; event = None };
       steps = step_found inputs cursors pc next Return locals stack _ found (ends inputs cursors locals stack);
       other_steps = step_found others other_cursors pc next Return other_locals other_stack _ found (ends others other_cursors other_locals other_stack);
       events = silence;
@@ -192,7 +192,7 @@ module _ (program : Program) (labels : Labels) (code : Code) (found_code : code_
     }
       where
         ends : (ins : List SourceInput) (cs : List ℕ) (ls : List (Option (Value ℕ))) (vs : List (Value ℕ))
-            → step_operation program labels ins (at_pc cs pc ls vs) 0 (frame_at labels.entry pc ls vs) [] (Some (Return, next)) ≡ Some (record { state = with_thread cs []; event = None })
+            → step_operation program labels ins (at_pc cs pc ls vs) 0 (frame_at labels.entry pc ls vs) [] (Some (Return, next)) ≡ Some (record { state = with_thread program labels cs []; event = None })
         ends ins cs ls vs = ap (λ o. silent (at_pc cs pc ls vs) 0 (execute (info_at (at_pc cs pc ls vs)) (frame_at labels.entry pc ls vs) [] next Return o)) (popped_none vs)
 
     source_step : (k s : ℕ) → operation_at program labels.entry pc ≡ Some (InvokeStatic k, next) → callee_at program labels.entry pc ≡ Some s → is_source (label_of labels s) ≡ true → IsPlainFrom program labels labels.entry code next

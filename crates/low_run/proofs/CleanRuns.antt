@@ -1,7 +1,8 @@
 -- What an observer sees of two runs of a clean plain program agrees.
 use Rattle.std.proofs.Common.{◌≡◌, ℕ, zero, suc, ◌%◌, ℤ, Bool, true, false, cond, List, [], ◌∷◌, length, replicate, Option, Some, None, refl, sym, ap, subst, ◌∙◌, inl}
-use Rattle.std.specs.Prelude.{slice_get, slice_index}
+use Rattle.std.specs.Prelude.{slice_get, slice_index, codes}
 use Rattle.std.specs.List.{AllByRecursion}
+use Rattle.std.specs.Str.{bytes_eq}
 use Rattle.std.proofs.lemmas.Bool.{false≢true}
 use Rattle.std.proofs.lemmas.Option.{none-some, same_Some}
 use Rattle.std.proofs.lemmas.List.{length-replicate}
@@ -15,13 +16,14 @@ use Rattle.jo_prog.specs.declared.runs.Event.{Event}
 use Rattle.jo_prog.specs.declared.runs.Event.TheVariants.{Out}
 use Rattle.jo_prog.specs.declared.runs.Trace.{Trace}
 use Rattle.jo_prog.specs.Labels.{label_of, reaches, misses, shown_at, brings}
-use Rattle.jo_prog.specs.Program.{code_at}
-use Rattle.jo_prog.specs.PlainCode.{IsLabelledNative, IsPlainProgram}
+use Rattle.jo_prog.specs.Program.{method_at, code_at}
+use Rattle.jo_prog.specs.PlainCode.{IsLabelledNative, IsEntry, IsPlainProgram}
 use Rattle.jo_prog.specs.Running.{with_thread}
 use Rattle.jo_prog.specs.Runs.{unmoved, advanced, with_event, run_from, seen, sink_level}
 use Rattle.jo_prog.specs.Typing.{Int, Unset, shape_at_start, at_start, IsTypedCode}
 use Rattle.jo_prog.specs.Values.{Value}
-use Rattle.jo_prog.specs.Machine.{Frame, State, Stepped, step, first_frame, start}
+use Rattle.jo_prog.specs.Constants.{takes_arguments, arguments_address}
+use Rattle.jo_prog.specs.Machine.{Frame, State, Stepped, step, first_locals, first_frame, start}
 use Rattle.dep_nodes.specs.declared.kinds.NodeKind.{NodeKind}
 use Rattle.dep_nodes.specs.declared.kinds.NodeKind.TheVariants.{Entry, Call, RetVal}
 use Rattle.dependence.specs.Paths.{stays, steps}
@@ -43,13 +45,13 @@ first_of_one : (j : ℕ) → slice_index (0 ∷ []) j ≡ 0
 first_of_one zero = refl
 first_of_one (suc j) = refl
 
-pub advanced_by_step : (program : Program) (labels : Labels) (inputs : List SourceInput) (cursors : List ℕ) (f : Frame) (number : ℕ) (after : Stepped) → step program labels inputs (with_thread cursors (f ∷ [])) 0 ≡ Some after
-    → advanced program labels inputs (with_thread cursors (f ∷ [])) number ≡ after
+pub advanced_by_step : (program : Program) (labels : Labels) (inputs : List SourceInput) (cursors : List ℕ) (f : Frame) (number : ℕ) (after : Stepped) → step program labels inputs (with_thread program labels cursors (f ∷ [])) 0 ≡ Some after
+    → advanced program labels inputs (with_thread program labels cursors (f ∷ [])) number ≡ after
 advanced_by_step program labels inputs cursors f number after e =
-    ap (λ t. unmoved (with_thread cursors (f ∷ [])) (step program labels inputs (with_thread cursors (f ∷ [])) t)) (first_of_one (number % length {A = ℕ} (0 ∷ []))) ∙ ap (unmoved (with_thread cursors (f ∷ []))) e
+    ap (λ t. unmoved (with_thread program labels cursors (f ∷ [])) (step program labels inputs (with_thread program labels cursors (f ∷ [])) t)) (first_of_one (number % length {A = ℕ} (0 ∷ []))) ∙ ap (unmoved (with_thread program labels cursors (f ∷ []))) e
 
 -- nothing changes once the thread has ended
-run_over : (program : Program) (labels : Labels) (inputs : List SourceInput) (cursors schedule : List ℕ) → run_from program labels inputs (with_thread cursors []) schedule ≡ record { events = []; ended = true }
+run_over : (program : Program) (labels : Labels) (inputs : List SourceInput) (cursors schedule : List ℕ) → run_from program labels inputs (with_thread program labels cursors []) schedule ≡ record { events = []; ended = true }
 unfolding run_from
 run_over program labels inputs cursors [] = refl
 run_over program labels inputs cursors (number ∷ schedule) = run_over program labels inputs cursors schedule
@@ -59,7 +61,7 @@ run_on : (program : Program) (labels : Labels) (inputs : List SourceInput) (s : 
 unfolding run_from
 run_on program labels inputs s number schedule after e = ap (λ (x : Stepped). with_event x.event (run_from program labels inputs x.state schedule)) (sym e)
 
-run_none : (program : Program) (labels : Labels) (inputs : List SourceInput) (cursors : List ℕ) (f : Frame) → record { events = []; ended = false } ≡ run_from program labels inputs (with_thread cursors (f ∷ [])) []
+run_none : (program : Program) (labels : Labels) (inputs : List SourceInput) (cursors : List ℕ) (f : Frame) → record { events = []; ended = false } ≡ run_from program labels inputs (with_thread program labels cursors (f ∷ [])) []
 unfolding run_from
 run_none program labels inputs cursors f = refl
 
@@ -98,9 +100,9 @@ events_agree program labels observer Relevant shows a b t u (at_sink pc m x y fl
 
 module _ (program : Program) (labels : Labels) (code : Code) (found : code_at program labels.entry ≡ Some code) (typed : IsTypedCode program labels.entry code) (natives : AllByRecursion (IsLabelledNative program labels) labels.labelled)
     (Relevant : NodeKind → Type 0) (closed : IsClosed program labels Relevant) (inputs others : List SourceInput) (agree : AgreeOnRelevant program labels Relevant inputs others) (observer : ℕ) (shows : ShowsRelevant program labels observer Relevant) where
-  over_agree : (cursors other_cursors schedule other_schedule : List ℕ) → TracesAgree labels observer (run_from program labels inputs (with_thread cursors []) schedule) (run_from program labels others (with_thread other_cursors []) other_schedule)
+  over_agree : (cursors other_cursors schedule other_schedule : List ℕ) → TracesAgree labels observer (run_from program labels inputs (with_thread program labels cursors []) schedule) (run_from program labels others (with_thread program labels other_cursors []) other_schedule)
   over_agree cursors other_cursors schedule other_schedule =
-      subst (λ t. TracesAgree labels observer t (run_from program labels others (with_thread other_cursors []) other_schedule)) (sym (run_over program labels inputs cursors schedule))
+      subst (λ t. TracesAgree labels observer t (run_from program labels others (with_thread program labels other_cursors []) other_schedule)) (sym (run_over program labels inputs cursors schedule))
       (subst (λ t. TracesAgree labels observer (record { events = []; ended = true }) t) (sym (run_over program labels others other_cursors other_schedule)) tt)
 
   -- from states that are together, whatever the schedules
@@ -108,16 +110,16 @@ module _ (program : Program) (labels : Labels) (code : Code) (found : code_at pr
   together_agree [] other_schedule a b (over cursors other_cursors) = over_agree cursors other_cursors [] other_schedule
   together_agree (number ∷ schedule) other_schedule a b (over cursors other_cursors) = over_agree cursors other_cursors (number ∷ schedule) other_schedule
   together_agree [] other_schedule a b (stand cursors other_cursors pc ls ms xs ys s) =
-      let rest = run_from program labels others (with_thread other_cursors (frame_at labels.entry pc ms ys ∷ [])) other_schedule in
+      let rest = run_from program labels others (with_thread program labels other_cursors (frame_at labels.entry pc ms ys ∷ [])) other_schedule in
       subst (λ t. TracesAgree labels observer t rest) (run_none program labels inputs cursors (frame_at labels.entry pc ls xs)) (unended_left labels observer (seen labels observer rest.events) rest.ended)
   together_agree (number ∷ schedule) [] a b (stand cursors other_cursors pc ls ms xs ys s) =
-      let rest = run_from program labels inputs (with_thread cursors (frame_at labels.entry pc ls xs ∷ [])) (number ∷ schedule) in
+      let rest = run_from program labels inputs (with_thread program labels cursors (frame_at labels.entry pc ls xs ∷ [])) (number ∷ schedule) in
       subst (λ t. TracesAgree labels observer rest t) (run_none program labels others other_cursors (frame_at labels.entry pc ms ys)) (unended_right labels observer (seen labels observer rest.events) rest.ended)
   together_agree (number ∷ schedule) (other_number ∷ other_schedule) a b (stand cursors other_cursors pc ls ms xs ys s) =
       let both = both_step program labels code found typed natives Relevant closed inputs others agree cursors other_cursors pc ls ms xs ys s in
-      let on = run_on program labels inputs (with_thread cursors (frame_at labels.entry pc ls xs ∷ [])) number schedule both.one (advanced_by_step program labels inputs cursors (frame_at labels.entry pc ls xs) number both.one both.steps) in
-      let other_on = run_on program labels others (with_thread other_cursors (frame_at labels.entry pc ms ys ∷ [])) other_number other_schedule both.other (advanced_by_step program labels others other_cursors (frame_at labels.entry pc ms ys) other_number both.other both.other_steps) in
-      subst (λ t. TracesAgree labels observer t (run_from program labels others (with_thread other_cursors (frame_at labels.entry pc ms ys ∷ [])) (other_number ∷ other_schedule))) on
+      let on = run_on program labels inputs (with_thread program labels cursors (frame_at labels.entry pc ls xs ∷ [])) number schedule both.one (advanced_by_step program labels inputs cursors (frame_at labels.entry pc ls xs) number both.one both.steps) in
+      let other_on = run_on program labels others (with_thread program labels other_cursors (frame_at labels.entry pc ms ys ∷ [])) other_number other_schedule both.other (advanced_by_step program labels others other_cursors (frame_at labels.entry pc ms ys) other_number both.other both.other_steps) in
+      subst (λ t. TracesAgree labels observer t (run_from program labels others (with_thread program labels other_cursors (frame_at labels.entry pc ms ys ∷ [])) (other_number ∷ other_schedule))) on
       (subst (λ t. TracesAgree labels observer (with_event both.one.event (run_from program labels inputs both.one.state schedule)) t) other_on
       (events_agree program labels observer Relevant shows both.one.event both.other.event (run_from program labels inputs both.one.state schedule) (run_from program labels others both.other.state other_schedule) both.events
       (together_agree schedule other_schedule both.one.state both.other.state both.together)))
@@ -129,13 +131,19 @@ no_int_unset zero k e = none-some Int e
 no_int_unset (suc n) zero e = (let same : Unset ≡ Int = same_Some Unset Int e in cc)
 no_int_unset (suc n) (suc k) e = no_int_unset n k e
 
+-- the entry of plain code takes no array
+takes_none : (program : Program) (m : ℕ) → IsEntry program m → takes_arguments (method_at program m) ≡ false
+takes_none program m entry = ap takes_arguments entry.found ∙ ap (λ desc. bytes_eq desc (codes "([Ljava/lang/String;)V")) entry.shape
+
 pub start_together : (program : Program) (labels : Labels) (Relevant : NodeKind → Type 0) (plain : IsPlainProgram program labels) → Together program labels plain.code Relevant (start program labels) (start program labels)
 start_together program labels Relevant plain =
     let code = plain.code in
     let n = node_at program labels.entry 0 in
     let cursors : List ℕ = replicate (length program.methods) 0 in
     let unset : List (Option (Value ℕ)) = replicate code.max_locals None in
-    subst (λ o. Together program labels code Relevant (with_thread cursors (first_frame labels.entry o)) (with_thread cursors (first_frame labels.entry o))) (sym plain.found)
+    let begun : List Frame → Type 0 = λ fs. Together program labels code Relevant (with_thread program labels cursors fs) (with_thread program labels cursors fs) in
+    subst (λ o. begun (first_frame program labels.entry o)) (sym plain.found)
+    (subst (λ b. begun (frame_at labels.entry 0 (first_locals b code.max_locals (arguments_address program)) [] ∷ [])) (sym (takes_none program labels.entry plain.well_labelled.entry))
     (stand cursors cursors 0 unset unset [] []
     (record {
       shape = shape_at_start code;
@@ -149,7 +157,7 @@ start_together program labels Relevant plain =
         each = λ k is. absurd (no_int_unset code.max_locals k is);
       };
       stacks_alike = empty;
-    }))
+    })))
 
 -- ---- the law
 

@@ -4,4 +4,4 @@ use Rattle.std.proofs.lemmas.List.{map-set}
 use Rattle.jo_prog.proofs.runner.RunState.store.Goals as goal
 
 pub returns-in-Some : goal.returns-in-Some
-returns-in-Some c = grind (arith, common_steps, map-set)
+returns-in-Some c = λ program labels. grind (arith, common_steps, map-set)
