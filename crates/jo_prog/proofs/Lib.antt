@@ -4,4 +4,5 @@ pub mod IntShapeLemmas
 pub mod PlainPaths
 pub mod RunLemmas
 pub mod RunningLemmas
+mod Strings
 pub mod TypingPaths

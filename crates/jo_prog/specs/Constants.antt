@@ -1,5 +1,5 @@
 -- String constants and the first values of static fields (JVM Specification SE 8, 2.3, 2.4, 4.7.2 and 5.1).
-use Rattle.std.specs.Prelude.{ℕ, Bool, false, not, ◌==◌, ◌||◌, pos, if◌then◌else◌, List, [], ◌∷◌, ◌++◌, length, filter, flat_map, position, Option, Some, None, codes}
+use Rattle.std.specs.Prelude.{ℕ, suc, Bool, false, not, ◌==◌, ◌||◌, pos, if◌then◌else◌, List, [], ◌∷◌, ◌++◌, length, filter, flat_map, Option, Some, None, option_map, codes}
 use Rattle.std.specs.Str.{bytes_eq}
 use Rattle.jo_prog.specs.declared.program.Program.{Program}
 use Rattle.jo_prog.specs.declared.program.Class.{Class}
@@ -32,9 +32,13 @@ distinct (text ∷ texts) = text ∷ filter (λ other. not (bytes_eq other text)
 unfoldable pub string_constants : Program → List (List ℕ)
 string_constants program = distinct (texts_of program)
 
+abbrev pub place_of : List ℕ → List (List ℕ) → Option ℕ
+place_of text [] = None
+place_of text (other ∷ others) = if bytes_eq other text then Some 0 else option_map (λ place. suc place) (place_of text others)
+
 -- the address of a text's object is its place among the string constants
 abbrev pub string_address : Program → List ℕ → Option ℕ
-string_address program text = position (λ other. bytes_eq other text) (string_constants program)
+string_address program text = place_of text (string_constants program)
 
 -- ---- static fields
 

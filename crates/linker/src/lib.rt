@@ -8,10 +8,10 @@ ghost use Rattle.jo_prog.specs.Numbers.{count_from};
 ghost use Rattle.jo_prog.specs.PreludeClasses.{object_class};
 ghost use Rattle.linker.specs.Linking.{text_at, member_named, operand_of, code_of, method_of, this_class_of, program_of};
 
-use jo_prog::lists::add;
-use jo_prog::program::{Class, Code, MemberRef, Method, Operand, Program, TypeRef};
 use class_pool::{ClassFile, CodeInfo, MethodInfo, PoolEntry, class_name_at, entry_at, utf8_at};
 use jo_ids::{ClassId, List, Memory, MethodId};
+use jo_prog::lists::add;
+use jo_prog::program::{Class, Code, MemberRef, Method, Operand, Program, TypeRef};
 use jo_text::Name;
 use std::alloc::Global;
 
