@@ -1,8 +1,14 @@
-//! Lists that contracts see as lists, and numbers of things of one kind.
+//! Lists that contracts see as lists, numbers of things of one kind and lists of such things, and sets of numbers.
 #![tactic(auto)]
+
+mod arenas;
+mod rows;
+pub mod words;
 
 ghost use Rattle.std.specs.Prelude.{◌≡◌, ◌++◌, ◌∷◌, [], IfErr, OnErr, OnOk};
 
+pub use arenas::{Arena, ArenaCause, ArenaRefusal};
+pub use rows::BitRow;
 pub use std::alloc::AllocError as Memory;
 use std::alloc::{AllocError, Global};
 use std::marker::{Model, PhantomData};
@@ -109,6 +115,12 @@ pub struct Levels;
 #[derive(Clone, Copy, PartialEq, Eq)]
 pub struct Nodes;
 
+#[derive(Clone, Copy, PartialEq, Eq)]
+pub struct Instances;
+
+#[derive(Clone, Copy, PartialEq, Eq)]
+pub struct Objects;
+
 pub type ClassId = Id<Classes>;
 
 pub type FieldId = Id<Fields>;
@@ -120,6 +132,37 @@ pub type SiteId = Id<Sites>;
 pub type LevelId = Id<Levels>;
 
 pub type NodeId = Id<Nodes>;
+
+pub type InstanceId = Id<Instances>;
+
+pub type ObjectId = Id<Objects>;
+
+/// A context: at most two sites, the first `len` of the two.
+#[derive(Clone, Copy, PartialEq, Eq)]
+pub struct SiteList {
+    pub len: u8,
+    pub first: SiteId,
+    pub second: SiteId,
+}
+
+/// An object of the analysis: the site that makes it, and the context in which the site is passed.
+#[derive(Clone, Copy, PartialEq, Eq)]
+pub struct ObjKey<C> {
+    pub site: SiteId,
+    pub context: C,
+}
+
+/// The quantity that is greater than its limit.
+#[derive(Clone, Copy, PartialEq, Eq, Debug)]
+pub enum LimitKind {
+    M1,
+    M2,
+    M3,
+    M4,
+    M5,
+    M6,
+    M7,
+}
 
 #[cfg(test)]
 mod tests {

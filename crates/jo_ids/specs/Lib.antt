@@ -1,0 +1,5 @@
+pub mod Path
+pub mod Closure
+pub mod Words
+pub mod Rows
+pub mod Lends
