@@ -13,3 +13,6 @@ pub mod GrammarMany
 pub mod GrammarPool
 pub mod GrammarParts
 pub mod GrammarClass
+pub mod FirstFaultSteps
+pub mod FirstFaultEntries
+pub mod FirstFaultReferences

@@ -7,3 +7,7 @@ pub mod Outcomes
 pub mod Stops
 pub mod Writing
 pub mod Known
+pub mod FirstFaultItems
+pub mod FirstFaultPool
+pub mod FirstFaultParts
+pub mod FirstFault

@@ -1,9 +1,12 @@
 //! Laws of the grammar of class files.
-ghost use Rattle.std.specs.Prelude.{◌≡◌, ◌↔◌, ◌<◌, ◌^◌, ℕ, List, Ok};
+ghost use Rattle.std.specs.Prelude.{◌≡◌, ◌↔◌, ◌<◌, ◌^◌, ℕ, List, length, drop, Ok, Err};
 ghost use Rattle.std.specs.List.{AllByRecursion};
 ghost use Rattle.class_pool.specs.ClassOrder.{class_of};
 ghost use Rattle.class_pool.specs.ClassGrammar.{IsClass};
+ghost use Rattle.class_pool.specs.Pool.{pool_of};
+ghost use Rattle.class_pool.specs.FirstFaultPool.{PoolStops};
 ghost use Rattle.class_pool.specs.declared.classes.ClassFile.{ClassFile};
+ghost use Rattle.class_pool.specs.declared.faults.ClassFault.{ClassFault};
 
 /// Reading in order gives the class that the grammar relates to the bytes, and no other.
 pub fn reading_is_the_grammar()
@@ -13,4 +16,9 @@ pub fn reading_is_the_grammar()
 /// Bytes are those of at most one class.
 pub fn one_class()
     ensures { (file : List ℕ) (one other : ClassFile) → IsClass file one → IsClass file other → one ≡ other }
+{}
+
+/// The first fault of the pool of a file, which begins at byte 8, is that of its items in order.
+pub fn pool_fault_is_by_items()
+    ensures { (file : List ℕ) (f : ClassFault) → AllByRecursion (λ byte. byte < 2 ^ 8) file → (pool_of file ≡ Err f) ↔ PoolStops (length file) (drop 8 file) f }
 {}
