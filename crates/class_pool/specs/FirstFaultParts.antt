@@ -17,7 +17,8 @@ use Rattle.class_pool.specs.declared.faults.ClassFault.{ClassFault}
 use Rattle.class_pool.specs.Items.{place_of, fault}
 use Rattle.class_pool.specs.Pool.{entry_at, utf8_at, class_name_at}
 use Rattle.class_pool.specs.Code.{Placed, is_wide_desc, dims_of, insn_fault, code_for}
-use Rattle.class_pool.specs.ClassOrder.{has_flag, static_flag, synchronized_flag, native_flag, fits_constant}
+use Rattle.jo_insn.specs.AccessFlags.{has_flag, static_flag, synchronized_flag, native_flag}
+use Rattle.class_pool.specs.ClassOrder.{fits_constant}
 use Rattle.class_pool.specs.ClassGrammar.{u2, SpellsEach, Attribute, SpellsAttribute, HasConstant, AreInsnsFrom, IsStart, JumpsWell, IsRow, SpellsRow, HasCodes, codes_in, HasBody}
 use Rattle.class_pool.specs.FirstFaultItems.{IsCut, Never, Check, Either, Item, Number, Bytes, OneStops, SpellsMany, Many, Counted}
 use Rattle.class_pool.specs.FirstFaultPool.{HasText}
