@@ -1,6 +1,7 @@
 -- The lines of items, one behind another, and those of a method's code.
-use Rattle.std.proofs.Common.{◌≡◌, ℕ, suc, ◌+◌, ◌<◌, Bool, false, List, [], ◌∷◌, ◌++◌, length, drop, get_or, sym, ap, ◌∙◌, add-one, drop-cons, append_assoc, arith}
-use Rattle.std.specs.Prelude.{slice_index_or, codes}
+use Rattle.std.proofs.Common.{◌≡◌, ℕ, suc, ◌+◌, ◌<◌, Bool, List, [], ◌∷◌, ◌++◌, length, drop, get_or, sym, ap, ◌∙◌, add-one, drop-cons, append_assoc, arith}
+use Rattle.std.specs.Prelude.{pos, codes}
+use Rattle.jo_insn.specs.Marks.{is_marked}
 use Rattle.std.specs.List.{AllByRecursion, flat_map}
 use Rattle.class_pool.specs.declared.entries.PoolEntry.{PoolEntry}
 use Rattle.class_pool.specs.declared.classes.CodeInfo.{CodeInfo}
@@ -25,12 +26,12 @@ module _ {X : Type 0} (xs : List X) (i : ℕ) (x : X) (below : i < length xs) (i
       ∙ sym (ap (λ (items : List X). before ++ flat_map lines items) next_item) ∙ so_far
 
 pub body_is : (pool : List PoolEntry) (code : CodeInfo) (marks : List Bool) (o0 o1 o2 o3 o4 : List ℕ) → AreLabels code marks
-    → o1 ≡ o0 ++ flat_map (insn_lines pool code.bytes (λ pc. slice_index_or marks pc false)) (insns_of code.bytes)
-    → o2 ≡ o1 ++ label_line (slice_index_or marks (length code.bytes) false) (length code.bytes)
+    → o1 ≡ o0 ++ flat_map (insn_lines pool code.bytes (λ pc. is_marked marks (pos pc))) (insns_of code.bytes)
+    → o2 ≡ o1 ++ label_line (is_marked marks (pos (length code.bytes))) (length code.bytes)
     → o3 ≡ o2 ++ flat_map (catch_line pool) code.rows → o4 ≡ o3 ++ line (codes "end" ∷ []) → o4 ≡ o0 ++ body_lines pool code
 body_is pool code marks o0 o1 o2 o3 o4 are e1 e2 e3 e4 =
     let size : ℕ = length code.bytes in
-    let insns = same_lines code.bytes pool (λ pc. slice_index_or marks pc false) (has_label code) are.each (insns_of code.bytes) (all_placed code.bytes size 0) in
+    let insns = same_lines code.bytes pool (λ pc. is_marked marks (pos pc)) (has_label code) are.each (insns_of code.bytes) (all_placed code.bytes size 0) in
     let at_end = are.each size (omega arith) in
     body_pieces (flat_map (insn_lines pool code.bytes (has_label code)) (insns_of code.bytes)) (label_line (has_label code size) size) (flat_map (catch_line pool) code.rows) (line (codes "end" ∷ []))
     o0 o1 o2 o3 o4 (e1 ∙ ap (λ (text : List ℕ). o0 ++ text) insns) (e2 ∙ ap (λ (labelled : Bool). o1 ++ label_line labelled size) at_end) e3 e4

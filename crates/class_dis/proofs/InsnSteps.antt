@@ -8,9 +8,9 @@ use Rattle.jo_insn.specs.declared.instructions.InsnFault.{InsnFault}
 use Rattle.jo_insn.specs.Instructions.{decoded}
 use Rattle.jo_insn.proofs.DecodedMoves.{decoded-moves}
 use Rattle.class_pool.specs.declared.entries.PoolEntry.{PoolEntry}
-use Rattle.class_pool.specs.Code.{Placed}
-use Rattle.class_dis.specs.declared.instructions.Placed.{Placed as InMemory}
-use Rattle.class_dis.specs.Insns.{insns_from, insns_of, seen, all_seen, IsPlacedIn}
+use Rattle.jo_insn.specs.declared.jumps.Placed.{Placed}
+use Rattle.jo_insn.specs.Jumps.{IsPlacedIn}
+use Rattle.class_dis.specs.Insns.{insns_from, insns_of}
 use Rattle.class_dis.specs.Listing.{insn_lines}
 
 module _ (code : List ℕ) where
@@ -60,11 +60,9 @@ module _ (code : List ℕ) where
       let here : one p.pc ≡ other p.pc = same p.pc (omega arith) in
       rw (here, same_lines pool one other same more all.1) refl
 
--- ---- in memory
-
 -- what stands past the end of a list of instructions
-abbrev pub past : InMemory
+abbrev pub past : Placed
 past = record { pc = 0; insn = Plain 0; next = 0 }
 
-pub split : (insns : List InMemory) (i : ℕ) (d : InMemory) → i < length insns → all_seen (drop i insns) ≡ seen (get_or insns i d) ∷ all_seen (drop (i + 1) insns)
+pub split : (insns : List Placed) (i : ℕ) (d : Placed) → i < length insns → drop i insns ≡ get_or insns i d ∷ drop (i + 1) insns
 split insns i d more = rw (add-one, drop-cons insns i d) refl

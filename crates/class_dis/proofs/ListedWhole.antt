@@ -10,13 +10,13 @@ use Rattle.class_pool.specs.declared.entries.PoolEntry.{PoolEntry}
 use Rattle.class_pool.specs.declared.classes.ClassFile.{ClassFile}
 use Rattle.class_pool.specs.declared.classes.MethodInfo.{MethodInfo}
 use Rattle.class_pool.specs.declared.classes.CodeInfo.{CodeInfo}
-use Rattle.class_pool.specs.Code.{Placed}
+use Rattle.jo_insn.specs.declared.jumps.Placed.{Placed}
 use Rattle.class_pool.specs.ClassGrammar.{u2, AreInsnsFrom, ends, goes_on, Attribute, SpellsCode, HasCodes, no_code, not_code, code_attribute, codes_in, SpellsMethod, IsClass}
-use Rattle.class_write.specs.Spelling.{FitsCode, FitsMethod}
-use Rattle.class_write.proofs.Sizes.{kept_length}
-use Rattle.class_write.proofs.Fits.{each_so}
-use Rattle.class_write.proofs.Bytes.{AllBytes, bytes_behind, InBytes, each_in_bytes, code_bytes, contents_bytes, methods_bytes}
-use Rattle.class_write.proofs.Again.{again}
+use Rattle.class_pool.specs.Fitting.{FitsCode, FitsMethod}
+use Rattle.class_pool.proofs.KeptSizes.{kept_length}
+use Rattle.class_pool.proofs.GrammarFits.{each_so}
+use Rattle.class_pool.proofs.GrammarBytes.{AllBytes, bytes_behind, InBytes, each_in_bytes, code_bytes, contents_bytes, methods_bytes}
+use Rattle.class_pool.proofs.KeptAgain.{again}
 use Rattle.class_dis.specs.Insns.{insns_from, IsShortCode, Cover, IsListedWhole}
 use Rattle.class_dis.proofs.InsnSteps.{one_more, none_left}
 

@@ -8,10 +8,10 @@ use Rattle.class_pool.specs.declared.classes.FieldInfo.{FieldInfo}
 use Rattle.class_pool.specs.declared.classes.MethodInfo.{MethodInfo}
 use Rattle.class_pool.specs.declared.classes.CodeInfo.{CodeInfo}
 use Rattle.class_pool.specs.declared.classes.RowInfo.{RowInfo}
-use Rattle.class_pool.specs.Code.{Placed}
+use Rattle.jo_insn.specs.declared.jumps.Placed.{Placed}
 use Rattle.class_pool.specs.Pool.{class_name_at}
 use Rattle.class_pool.specs.ClassGrammar.{SpellsField, IsRow, Attribute, HasCodes, no_code, not_code, code_attribute, codes_in, SpellsMethod, SpellsClassIndex, IsClass}
-use Rattle.class_write.proofs.Fits.{each_so}
+use Rattle.class_pool.proofs.GrammarFits.{each_so}
 use Rattle.class_dis.specs.Names.{HasClass, HasMember, HasCaught, HasNames}
 
 pub is_there : {A : Type 0} (o : Option A) (P : A → Type 0) → IsSomeAnd o P → IsSome o

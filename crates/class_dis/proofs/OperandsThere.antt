@@ -14,10 +14,11 @@ use Rattle.class_pool.specs.declared.classes.MethodInfo.{MethodInfo}
 use Rattle.class_pool.specs.declared.classes.CodeInfo.{CodeInfo}
 use Rattle.class_pool.specs.declared.faults.ClassCode.{ClassCode}
 use Rattle.class_pool.specs.Pool.{entry_at, class_name_of, desc_of, desc_at}
-use Rattle.class_pool.specs.Code.{Placed, dims_at, has_dims_that, constant_fault, field_fault, method_fault, interface_fault, class_method_fault, index_unless, pooled_fault, insn_fault}
+use Rattle.jo_insn.specs.declared.jumps.Placed.{Placed}
+use Rattle.class_pool.specs.Code.{dims_at, has_dims_that, constant_fault, field_fault, method_fault, interface_fault, class_method_fault, index_unless, pooled_fault, insn_fault}
 use Rattle.class_pool.specs.ClassGrammar.{IsClassEntry, RefersWell, AreInsnsFrom, ends, goes_on, SpellsCode, IsClass}
-use Rattle.class_write.proofs.Bytes.{AllBytes, code_bytes}
-use Rattle.class_write.proofs.Again.{again}
+use Rattle.class_pool.proofs.GrammarBytes.{AllBytes, code_bytes}
+use Rattle.class_pool.proofs.KeptAgain.{again}
 use Rattle.class_dis.specs.Insns.{insns_from}
 use Rattle.class_dis.specs.Words.{member_name_of}
 use Rattle.class_dis.specs.Names.{HasReference, HasEntry, HasOperand, HasOperands}

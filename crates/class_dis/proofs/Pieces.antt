@@ -20,9 +20,8 @@ pub row_pieces : (space feed t start end handler caught o0 o1 o2 o3 o4 o5 o6 o7 
 row_pieces space feed t start end handler caught o0 o1 o2 o3 o4 o5 o6 o7 o8 o9 e1 e2 e3 e4 e5 e6 e7 e8 e9 = rw (e9, e8, e7, e6, e5, e4, e3, e2, e1) (simp (append_assoc, append-nil))
 
 -- a tableswitch and a lookupswitch
-pub table_pieces : (space t low other offsets o0 o1 o2 o3 o4 : List ℕ) → o1 ≡ o0 ++ (t ++ space) → o2 ≡ o1 ++ low → o3 ≡ o2 ++ (space ++ other) → o4 ≡ o3 ++ offsets
-    → o4 ≡ o0 ++ (t ++ ((space ++ low) ++ ((space ++ other) ++ offsets)))
-table_pieces space t low other offsets o0 o1 o2 o3 o4 e1 e2 e3 e4 = rw (e4, e3, e2, e1) (simp append_assoc)
+pub table_pieces : (space t low labels o0 o1 o2 o3 : List ℕ) → o1 ≡ o0 ++ (t ++ space) → o2 ≡ o1 ++ low → o3 ≡ o2 ++ labels → o3 ≡ o0 ++ (t ++ ((space ++ low) ++ labels))
+table_pieces space t low labels o0 o1 o2 o3 e1 e2 e3 = rw (e3, e2, e1) (simp append_assoc)
 
 pub lookup_pieces : (space t other pairs o0 o1 o2 o3 : List ℕ) → o1 ≡ o0 ++ t → o2 ≡ o1 ++ (space ++ other) → o3 ≡ o2 ++ pairs → o3 ≡ o0 ++ (t ++ ((space ++ other) ++ pairs))
 lookup_pieces space t other pairs o0 o1 o2 o3 e1 e2 e3 = rw (e3, e2, e1) (simp append_assoc)

@@ -1,62 +1,48 @@
--- The offsets and pairs of switches, one after another.
-use Rattle.std.proofs.Common.{◌≡◌, ℕ, suc, ◌+◌, ◌-◌, ◌*◌, ◌<◌, ◌≤◌, Bool, List, [], ◌∷◌, ◌++◌, length, drop, refl, sym, ap, ◌∙◌, append_assoc, arith}
-use Rattle.std.specs.Prelude.{ℤ, pos, ◌+ℤ◌, map}
-use Rattle.std.proofs.lemmas.List.{append-nil, length-drop}
+-- The pairs of a lookupswitch, one after another.
+use Rattle.std.proofs.Common.{◌≡◌, ℕ, zero, suc, ◌+◌, ◌-◌, ◌*◌, ◌<◌, ◌≤◌, List, [], ◌∷◌, ◌++◌, length, take, drop, get_or, refl, sym, ap, ◌∙◌, append_assoc, add-one, drop-cons, arith}
+use Rattle.std.specs.Prelude.{ℤ, pos, map}
+use Rattle.std.proofs.lemmas.List.{append-nil, length-map, take_all}
 use Rattle.std.specs.Fmt.{signed_decimal}
 use Rattle.byteorder.specs.Endian.{big_number, twos_complement}
-use Rattle.class_pool.specs.Code.{offsets_of}
-use Rattle.class_read.specs.Starts.{AreOffsets}
-use Rattle.class_dis.specs.Labels.{marked_at, marked}
+use Rattle.jo_insn.specs.declared.instructions.Insn.TheVariants.{LookupSwitch}
+use Rattle.jo_insn.specs.Jumps.{offsets_of, targets_of}
 use Rattle.class_dis.specs.Words.{spaced, label}
-use Rattle.class_dis.specs.Listing.{pair_words}
+use Rattle.class_dis.specs.Listing.{pair_words, lookup_words}
 
-abbrev pub first_offset : List ℕ → ℤ
-first_offset table = twos_complement 4 (big_number 4 table)
+abbrev pub pair_text : List ℕ → ℤ → List ℕ
+pair_text table target = spaced (signed_decimal (twos_complement 4 (big_number 4 table)) ∷ label target ∷ [])
 
--- an iteration of a loop over so many offsets or pairs, at counter i
-module _ (count i : ℕ) (table : List ℕ) where
-  pub is_there : (step : ℕ) → i < count → AreOffsets (count - i) step table → (4 ≤ length table) × AreOffsets (count - (i + 1)) step (drop step table)
-  is_there step more there = let one_more : count - i ≡ suc (count - (i + 1)) = omega arith in rw one_more at there
+split_pair : (table : List ℕ) (target : ℤ) (rest : List (List ℕ)) → spaced (signed_decimal (twos_complement 4 (big_number 4 table)) ∷ label target ∷ rest) ≡ pair_text table target ++ spaced rest
+split_pair table target rest = split (32 ∷ signed_decimal (twos_complement 4 (big_number 4 table))) (32 ∷ label target) (spaced rest)
+  where
+    split : (a b d : List ℕ) → a ++ (b ++ d) ≡ (a ++ (b ++ [])) ++ d
+    split a b d = ap (λ (x : List ℕ). a ++ (x ++ d)) (sym (append-nil b)) ∙ sym (append_assoc a (b ++ []) d)
 
-  one_taken : (step : ℕ) → i < count → offsets_of (count - i) step table ≡ first_offset table ∷ offsets_of (count - (i + 1)) step (drop step table)
-  one_taken step more = let one_more : count - i ≡ suc (count - (i + 1)) = omega arith in rw one_more refl
+-- an iteration of the loop over the targets, at index i
+pub pair_spelled : (table : List ℕ) (targets : List ℤ) (i : ℕ) (d : ℤ) (before now all : List ℕ) → i < length targets → now ≡ before ++ pair_text table (get_or targets i d)
+    → before ++ spaced (pair_words table (drop i targets)) ≡ all → now ++ spaced (pair_words (drop 8 table) (drop (i + 1) targets)) ≡ all
+pair_spelled table targets i d before now all more is so_far =
+    let target : ℤ = get_or targets i d in
+    let rest : List (List ℕ) = pair_words (drop 8 table) (drop (i + 1) targets) in
+    let next : drop i targets ≡ target ∷ drop (i + 1) targets = rw (add-one, drop-cons targets i d) refl in
+    ap (λ (text : List ℕ). text ++ spaced rest) is ∙ append_assoc before (pair_text table target) (spaced rest)
+    ∙ ap (λ (text : List ℕ). before ++ text) (sym (split_pair table target rest)) ∙ sym (ap (λ (these : List ℤ). before ++ spaced (pair_words table these)) next) ∙ so_far
 
-  pub marks_one : (step pc : ℕ) (before now all : List Bool) → i < count → now ≡ marked_at before (pos pc +ℤ first_offset table) → marked before (map (λ by. pos pc +ℤ by) (offsets_of (count - i) step table)) ≡ all
-      → marked now (map (λ by. pos pc +ℤ by) (offsets_of (count - (i + 1)) step (drop step table))) ≡ all
-  marks_one step pc before now all more is so_far =
-      ap (λ (marks : List Bool). marked marks (map (λ by. pos pc +ℤ by) (offsets_of (count - (i + 1)) step (drop step table)))) is
-      ∙ sym (ap (λ (offsets : List ℤ). marked before (map (λ by. pos pc +ℤ by) offsets)) (one_taken step more)) ∙ so_far
+-- the first target and the ones behind it
+pub lookup_split : (table : List ℕ) (targets : List ℤ) → 1 ≤ length targets → lookup_words table targets ≡ label (get_or targets 0 (pos 0)) ∷ pair_words table (take (length targets - 1) (drop 1 targets))
+lookup_split table [] some = absurd (omega arith)
+lookup_split table (target ∷ more) some =
+    let all : take (length (target ∷ more) - 1) more ≡ more = take_all (length (target ∷ more) - 1) more (omega arith) in
+    ap (λ (these : List ℤ). label target ∷ pair_words table these) (sym all)
 
-  pub spells_one : (step pc : ℕ) (before now all : List ℕ) → i < count → now ≡ before ++ 32 ∷ label (pos pc +ℤ first_offset table) → before ++ spaced (map (λ by. label (pos pc +ℤ by)) (offsets_of (count - i) step table)) ≡ all
-      → now ++ spaced (map (λ by. label (pos pc +ℤ by)) (offsets_of (count - (i + 1)) step (drop step table))) ≡ all
-  spells_one step pc before now all more is so_far =
-      let rest : List ℕ = spaced (map (λ by. label (pos pc +ℤ by)) (offsets_of (count - (i + 1)) step (drop step table))) in
-      ap (λ (text : List ℕ). text ++ rest) is ∙ append_assoc before (32 ∷ label (pos pc +ℤ first_offset table)) rest
-      ∙ sym (ap (λ (offsets : List ℤ). before ++ spaced (map (λ by. label (pos pc +ℤ by)) offsets)) (one_taken step more)) ∙ so_far
+-- ---- how many targets a lookupswitch has
 
-  -- ---- pairs
+length_offsets : (n step : ℕ) (table : List ℕ) → length (offsets_of n step table) ≡ n
+length_offsets zero step table = refl
+length_offsets (suc n) step table = let rest = length_offsets n step (drop step table) in omega arith
 
-  pub pair_there : i < count → 8 * (count - i) ≤ length table → (8 ≤ length table) × (8 * (count - (i + 1)) ≤ length (drop 8 table))
-  pair_there more there = let left = length-drop 8 table in (omega arith, omega arith)
-
-  abbrev pair_text : ℕ → List ℕ
-  pair_text pc = spaced (signed_decimal (first_offset table) ∷ label (pos pc +ℤ first_offset (drop 4 table)) ∷ [])
-
-  split_pair : (pc : ℕ) (rest : List (List ℕ)) → spaced (signed_decimal (first_offset table) ∷ label (pos pc +ℤ first_offset (drop 4 table)) ∷ rest) ≡ pair_text pc ++ spaced rest
-  split_pair pc rest = split (32 ∷ signed_decimal (first_offset table)) (32 ∷ label (pos pc +ℤ first_offset (drop 4 table))) (spaced rest)
-    where
-      split : (a b d : List ℕ) → a ++ (b ++ d) ≡ (a ++ (b ++ [])) ++ d
-      split a b d = ap (λ (x : List ℕ). a ++ (x ++ d)) (sym (append-nil b)) ∙ sym (append_assoc a (b ++ []) d)
-
-  pub pair_spelled : (pc : ℕ) (before now all : List ℕ) → i < count → now ≡ before ++ pair_text pc → before ++ spaced (pair_words (count - i) pc table) ≡ all
-      → now ++ spaced (pair_words (count - (i + 1)) pc (drop 8 table)) ≡ all
-  pair_spelled pc before now all more is so_far =
-      let one_more : count - i ≡ suc (count - (i + 1)) = omega arith in
-      let rest : List (List ℕ) = pair_words (count - (i + 1)) pc (drop 8 table) in
-      ap (λ (text : List ℕ). text ++ spaced rest) is ∙ append_assoc before (pair_text pc) (spaced rest)
-      ∙ ap (λ (text : List ℕ). before ++ text) (sym (split_pair pc rest)) ∙ sym (ap (λ (n : ℕ). before ++ spaced (pair_words n pc table)) one_more) ∙ so_far
-
-  pub pairs_done : (pc : ℕ) (text all : List ℕ) → count ≤ i → text ++ spaced (pair_words (count - i) pc table) ≡ all → text ≡ all
-  pairs_done pc text all done so_far =
-      let over : count - i ≡ 0 = omega arith in
-      sym (append-nil text) ∙ sym (ap (λ (n : ℕ). text ++ spaced (pair_words n pc table)) over) ∙ so_far
+pub lookup_targets : (code : List ℕ) (pc pairs at : ℕ) (other : ℤ) → length (targets_of code pc (LookupSwitch other pairs at)) ≡ pairs + 1
+lookup_targets code pc pairs at other =
+    let offsets : List ℤ = offsets_of pairs 8 (drop (at + 4) code) in
+    let many = length_offsets pairs 8 (drop (at + 4) code) in
+    simp length-map (omega arith)

@@ -1,5 +1,5 @@
 -- The instructions of some code, one behind another (JVM Specification SE 8, 4.9.1).
-use Rattle.std.specs.Prelude.{◌≡◌, ℕ, zero, suc, ◌^◌, ◌<◌, List, [], ◌∷◌, length, map, Option, Some, None, Result, Ok, Err}
+use Rattle.std.specs.Prelude.{◌≡◌, ℕ, zero, suc, ◌^◌, ◌<◌, List, [], ◌∷◌, length, Option, Some, None, Result, Ok, Err}
 use Rattle.std.specs.List.{AllByRecursion}
 use Rattle.jo_insn.specs.declared.instructions.Insn.{Insn}
 use Rattle.jo_insn.specs.declared.instructions.InsnFault.{InsnFault}
@@ -7,8 +7,7 @@ use Rattle.jo_insn.specs.Instructions.{decoded}
 use Rattle.class_pool.specs.declared.classes.ClassFile.{ClassFile}
 use Rattle.class_pool.specs.declared.classes.MethodInfo.{MethodInfo}
 use Rattle.class_pool.specs.declared.classes.CodeInfo.{CodeInfo}
-use Rattle.class_pool.specs.Code.{Placed}
-use Rattle.class_dis.specs.declared.instructions.Placed as code
+use Rattle.jo_insn.specs.declared.jumps.Placed.{Placed}
 
 -- The instructions from a pc on, up to the first place where none stands: the end, in the code of a class file. The first
 -- number bounds how many there are.
@@ -22,19 +21,6 @@ insns_from (suc k) code pc = followed pc (decoded code pc) (λ next. insns_from 
 
 abbrev pub insns_of : List ℕ → List Placed
 insns_of code = insns_from (length code) code 0
-
--- ---- in memory
-
--- an instruction with its pc and the next one
-abbrev pub seen : code.Placed → Placed
-seen placed = record { pc = placed.pc; insn = placed.insn; next = placed.next }
-
-abbrev pub all_seen : List code.Placed → List Placed
-all_seen insns = map seen insns
-
--- the instruction is what is decoded at its pc
-abbrev pub IsPlacedIn : List ℕ → Placed → Type 0
-IsPlacedIn code placed = decoded code placed.pc ≡ Ok (placed.insn, placed.next)
 
 -- ---- the size of code
 

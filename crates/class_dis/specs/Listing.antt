@@ -1,6 +1,6 @@
 -- The listing of a class file as assembly (this project's own; the parts are those of the JVM Specification SE 8, 4.1 to
 -- 4.7). Versions, entries of the pool that nothing names, and long, float and double constants of fields aren't listed.
-use Rattle.std.specs.Prelude.{ℕ, zero, suc, Bool, true, false, if◌then◌else◌, pos, ◌+ℤ◌, List, [], ◌∷◌, ◌++◌, length, drop, map, Option, Some, None, codes}
+use Rattle.std.specs.Prelude.{ℕ, zero, suc, Bool, true, false, if◌then◌else◌, ℤ, pos, List, [], ◌∷◌, ◌++◌, length, drop, map, Option, Some, None, codes}
 use Rattle.std.specs.Str.{bytes_eq}
 use Rattle.std.specs.List.{flat_map}
 use Rattle.std.specs.Fmt.{decimal, signed_decimal}
@@ -10,7 +10,6 @@ use Rattle.jo_insn.specs.declared.instructions.Insn.{Insn}
 use Rattle.jo_insn.specs.declared.instructions.Insn.TheVariants.{Plain, Local, Iinc, Push, Pooled, Array, Jump, TableSwitch, LookupSwitch}
 use Rattle.jo_insn.specs.Opcodes.{name_of}
 use Rattle.jo_insn.specs.ArrayKinds.{name_of_kind}
-use Rattle.jo_insn.specs.Instructions.{offsets_between}
 use Rattle.class_pool.specs.declared.entries.PoolEntry.{PoolEntry}
 use Rattle.class_pool.specs.declared.entries.PoolEntry.TheVariants.{Integer, Text}
 use Rattle.class_pool.specs.declared.classes.ClassFile.{ClassFile}
@@ -19,7 +18,8 @@ use Rattle.class_pool.specs.declared.classes.MethodInfo.{MethodInfo}
 use Rattle.class_pool.specs.declared.classes.CodeInfo.{CodeInfo}
 use Rattle.class_pool.specs.declared.classes.RowInfo.{RowInfo}
 use Rattle.class_pool.specs.Pool.{entry_at, class_name_at}
-use Rattle.class_pool.specs.Code.{Placed, offsets_of}
+use Rattle.jo_insn.specs.declared.jumps.Placed.{Placed}
+use Rattle.jo_insn.specs.Jumps.{targets_of}
 use Rattle.class_dis.specs.Insns.{insns_of}
 use Rattle.class_dis.specs.Labels.{has_label}
 use Rattle.class_dis.specs.Words.{line, hex, label, text_of, name_word, class_word, text_word, entry_word}
@@ -38,11 +38,15 @@ abbrev pub widened : Bool → List (List ℕ) → List (List ℕ)
 widened false words = words
 widened true words = codes "wide" ∷ words
 
--- so many pairs of a key and an offset
-abbrev pub pair_words : ℕ → ℕ → List ℕ → List (List ℕ)
-pair_words zero pc table = []
-pair_words (suc n) pc table =
-    signed_decimal (twos_complement 4 (big_number 4 table)) ∷ label (pos pc +ℤ twos_complement 4 (big_number 4 (drop 4 table))) ∷ pair_words n pc (drop 8 table)
+-- the keys of a table of pairs, each with the label of its target
+abbrev pub pair_words : List ℕ → List ℤ → List (List ℕ)
+pair_words table [] = []
+pair_words table (target ∷ more) = signed_decimal (twos_complement 4 (big_number 4 table)) ∷ label target ∷ pair_words (drop 8 table) more
+
+-- the label of the default, which is the first target, and the pairs
+abbrev pub lookup_words : List ℕ → List ℤ → List (List ℕ)
+lookup_words table [] = []
+lookup_words table (other ∷ more) = label other ∷ pair_words table more
 
 -- The opcode and its operands. A tableswitch has its least key, its default, and a label for each key; a lookupswitch its
 -- default, and each key with its label.
@@ -53,10 +57,9 @@ insn_words pool code pc (Iinc index by wide) = widened wide (codes "iinc" ∷ de
 insn_words pool code pc (Push op value) = op_word op ∷ signed_decimal value ∷ []
 insn_words pool code pc (Pooled op index) = op_word op ∷ entry_word pool (entry_at pool index) ∷ []
 insn_words pool code pc (Array kind) = codes "newarray" ∷ kind_word kind ∷ []
-insn_words pool code pc (Jump op by) = op_word op ∷ label (pos pc +ℤ by) ∷ []
-insn_words pool code pc (TableSwitch other low high at) =
-    codes "tableswitch" ∷ signed_decimal low ∷ label (pos pc +ℤ other) ∷ map (λ by. label (pos pc +ℤ by)) (offsets_of (offsets_between low high) 4 (drop at code))
-insn_words pool code pc (LookupSwitch other pairs at) = codes "lookupswitch" ∷ label (pos pc +ℤ other) ∷ pair_words pairs pc (drop at code)
+insn_words pool code pc (Jump op by) = op_word op ∷ map label (targets_of code pc (Jump op by))
+insn_words pool code pc (TableSwitch other low high at) = codes "tableswitch" ∷ signed_decimal low ∷ map label (targets_of code pc (TableSwitch other low high at))
+insn_words pool code pc (LookupSwitch other pairs at) = codes "lookupswitch" ∷ lookup_words (drop at code) (targets_of code pc (LookupSwitch other pairs at))
 
 -- ---- code
 

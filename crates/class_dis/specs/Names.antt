@@ -11,7 +11,7 @@ use Rattle.class_pool.specs.declared.classes.FieldInfo.{FieldInfo}
 use Rattle.class_pool.specs.declared.classes.MethodInfo.{MethodInfo}
 use Rattle.class_pool.specs.declared.classes.CodeInfo.{CodeInfo}
 use Rattle.class_pool.specs.declared.classes.RowInfo.{RowInfo}
-use Rattle.class_pool.specs.Code.{Placed}
+use Rattle.jo_insn.specs.declared.jumps.Placed.{Placed}
 use Rattle.class_pool.specs.Pool.{entry_at, utf8_at, class_name_at, desc_at}
 use Rattle.class_dis.specs.Insns.{insns_of}
 use Rattle.class_dis.specs.Words.{member_name_at}

@@ -1,14 +1,16 @@
 //! The lines of a method's code.
-ghost use Rattle.std.specs.Prelude.{◌≡◌, ◌++◌, ◌<◌, ◌^◌, length, slice_index_or, false, OnOk};
+ghost use Rattle.std.specs.Prelude.{◌≡◌, ◌++◌, ◌<◌, ◌^◌, pos, length, OnOk};
 ghost use Rattle.std.specs.List.{AllByRecursion, flat_map};
-ghost use Rattle.class_dis.specs.Insns.{seen, all_seen, IsPlacedIn};
+ghost use Rattle.jo_insn.specs.Jumps.{IsPlacedIn};
+ghost use Rattle.jo_insn.specs.Marks.{is_marked};
 ghost use Rattle.class_dis.specs.Listing.{label_line, insn_lines, catch_word, catch_line, body_lines};
 
-use crate::instructions::{Placed, instructions};
+use crate::instructions::instructions;
 use crate::labels::labels;
 use crate::operands::push_insn;
 use crate::words::{push_class, push_label};
 use class_pool::{CodeInfo, PoolEntry, RowInfo, class_name_at};
+use jo_insn::{PcMarks, Placed};
 use jo_text::Memory;
 use std::alloc::Global;
 
@@ -16,13 +18,13 @@ use std::alloc::Global;
 fn push_label_line(
     alloc: Global,
     out: &mut Vec<u8>,
-    marks: &[bool],
+    marks: &PcMarks,
     pc: usize,
 ) -> Result<(), Memory>
     requires { pc < 2 ^ 32 }
-    ensures { OnOk result (out.new.items ≡ out.old.items ++ label_line (slice_index_or marks.now pc false) pc) }
+    ensures { OnOk result (out.new.items ≡ out.old.items ++ label_line (is_marked marks.now (pos pc)) pc) }
 {
-    if !marks.get(pc).copied().unwrap_or(false) {
+    if !marks.is_marked(pc as i64) {
         return Ok(());
     }
     push_label(alloc, out, pc as i64)?;
@@ -34,11 +36,11 @@ fn push_placed(
     out: &mut Vec<u8>,
     pool: &[PoolEntry],
     code: &[u8],
-    marks: &[bool],
+    marks: &PcMarks,
     placed: &Placed,
 ) -> Result<(), Memory>
-    requires { IsPlacedIn code.now (seen placed.now) }
-    ensures { OnOk result (out.new.items ≡ out.old.items ++ insn_lines pool.now code.now (λ pc. slice_index_or marks.now pc false) (seen placed.now)) }
+    requires { IsPlacedIn code.now placed.now }
+    ensures { OnOk result (out.new.items ≡ out.old.items ++ insn_lines pool.now code.now (λ pc. is_marked marks.now (pos pc)) placed.now) }
 {
     push_label_line(alloc, out, marks, placed.pc as usize)?;
     push_insn(alloc, out, pool, code, placed)
@@ -50,11 +52,11 @@ fn push_insns(
     out: &mut Vec<u8>,
     pool: &[PoolEntry],
     code: &[u8],
-    marks: &[bool],
+    marks: &PcMarks,
     insns: &[Placed],
 ) -> Result<(), Memory>
-    requires { AllByRecursion (IsPlacedIn code.now) (all_seen insns.now) }
-    ensures { OnOk result (out.new.items ≡ out.old.items ++ flat_map (insn_lines pool.now code.now (λ pc. slice_index_or marks.now pc false)) (all_seen insns.now)) }
+    requires { AllByRecursion (IsPlacedIn code.now) insns.now }
+    ensures { OnOk result (out.new.items ≡ out.old.items ++ flat_map (insn_lines pool.now code.now (λ pc. is_marked marks.now (pos pc))) insns.now) }
 {
     for placed in insns {
         push_placed(alloc, out, pool, code, marks, placed)?;
@@ -122,8 +124,8 @@ pub fn push_body(
     let bytes = code.bytes.as_slice();
     let insns = instructions(alloc, bytes)?;
     let marks = labels(alloc, code, insns.as_slice())?;
-    push_insns(alloc, out, pool, bytes, marks.as_slice(), insns.as_slice())?;
-    push_label_line(alloc, out, marks.as_slice(), bytes.len())?;
+    push_insns(alloc, out, pool, bytes, &marks, insns.as_slice())?;
+    push_label_line(alloc, out, &marks, bytes.len())?;
     push_rows(alloc, out, pool, code.rows.as_slice())?;
     out.extend_from_slice(b"end\n")
 }

@@ -7,7 +7,7 @@ ghost use Rattle.class_pool.specs.declared.classes.MethodInfo.{MethodInfo};
 ghost use Rattle.class_dis.specs.Insns.{HasShortCodes, IsListedWhole};
 ghost use Rattle.class_dis.specs.Names.{HasNames, HasOperands};
 
-use class_write::laws::what_is_read_fits;
+use class_pool::laws::what_is_read_fits;
 
 /// What is read as a class can be listed.
 pub fn what_is_read_is_short()

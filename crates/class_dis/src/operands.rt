@@ -1,20 +1,16 @@
 //! The lines of instructions.
-ghost use Rattle.std.specs.Prelude.{◌≡◌, ◌++◌, ◌∷◌, [], ◌*◌, ◌≤◌, ◌+ℤ◌, pos, drop, length, map, codes, OnOk};
+ghost use Rattle.std.specs.Prelude.{◌≡◌, ◌++◌, ◌∷◌, [], ◌+◌, ◌*◌, ◌≤◌, length, map, codes, OnOk};
 ghost use Rattle.std.specs.Fmt.{decimal, signed_decimal};
 ghost use Rattle.byteorder.specs.Endian.{big_number, twos_complement};
 ghost use Rattle.class_pool.specs.Pool.{entry_at as entry_with};
-ghost use Rattle.class_pool.specs.Code.{offsets_of};
-ghost use Rattle.class_read.specs.Starts.{AreOffsets};
-ghost use Rattle.class_dis.specs.Insns.{seen, IsPlacedIn};
+ghost use Rattle.jo_insn.specs.Jumps.{IsPlacedIn};
 ghost use Rattle.class_dis.specs.Words.{joined, spaced, line, label, entry_word};
-ghost use Rattle.class_dis.specs.Listing.{op_word, widened, kind_word, pair_words, insn_words};
+ghost use Rattle.class_dis.specs.Listing.{op_word, widened, kind_word, pair_words, lookup_words, insn_words};
 
-use crate::instructions::Placed;
 use crate::words::{push_entry, push_label, push_number, push_signed};
 use byteorder::{BigEndian, ByteOrder};
 use class_pool::PoolEntry;
-use class_pool::items::behind;
-use jo_insn::{Insn, name_of, name_of_kind};
+use jo_insn::{Insn, Placed, behind, name_of, name_of_kind, targets_of};
 use jo_text::Memory;
 use std::alloc::Global;
 
@@ -91,39 +87,30 @@ fn push_pooled(
     push_entry(alloc, out, pool, index)
 }
 
-/// A space, and the label to which an offset at a pc leads.
-fn push_target(alloc: Global, out: &mut Vec<u8>, pc: u32, by: i32) -> Result<(), Memory>
-    ensures { OnOk result (out.new.items ≡ out.old.items ++ 32 ∷ label (pos pc +ℤ by)) }
+/// A space, and the label of a pc.
+fn push_target(alloc: Global, out: &mut Vec<u8>, pc: i64) -> Result<(), Memory>
+    ensures { OnOk result (out.new.items ≡ out.old.items ++ 32 ∷ label pc) }
 {
     out.push(b' ')?;
-    push_label(alloc, out, i64::from(pc) + i64::from(by))
+    push_label(alloc, out, pc)
 }
 
-/// A space, and the label to which the offset that begins the table leads from this pc.
-fn push_offset(alloc: Global, out: &mut Vec<u8>, pc: u32, table: &[u8]) -> Result<(), Memory>
-    requires { 4 ≤ length table.now }
-    ensures { OnOk result (out.new.items ≡ out.old.items ++ 32 ∷ label (pos pc +ℤ twos_complement 4 (big_number 4 table.now))) }
+/// The labels of these pcs.
+fn push_targets(alloc: Global, out: &mut Vec<u8>, targets: &[i64]) -> Result<(), Memory>
+    ensures { OnOk result (out.new.items ≡ out.old.items ++ spaced (map label targets.now)) }
 {
-    push_target(alloc, out, pc, BigEndian::read_i32(table))
-}
-
-/// The labels of so many offsets at a pc.
-fn push_targets(
-    alloc: Global,
-    out: &mut Vec<u8>,
-    pc: u32,
-    count: u64,
-    table: &[u8],
-) -> Result<(), Memory>
-    requires { AreOffsets count 4 table.now }
-    ensures { OnOk result (out.new.items ≡ out.old.items ++ spaced (map (λ by. label (pos pc +ℤ by)) (offsets_of count 4 table.now))) }
-{
-    let mut table = table;
-    for _ in 0..count {
-        push_offset(alloc, out, pc, table)?;
-        table = behind(table, 4);
+    for target in targets {
+        push_target(alloc, out, *target)?;
     }
     Ok(())
+}
+
+/// The opcode of a jump, and the labels of its targets.
+fn push_jump(alloc: Global, out: &mut Vec<u8>, op: u8, targets: &[i64]) -> Result<(), Memory>
+    ensures { OnOk result (out.new.items ≡ out.old.items ++ joined (op_word op ∷ map label targets.now)) }
+{
+    push_op(out, op)?;
+    push_targets(alloc, out, targets)
 }
 
 /// A space, and the key that begins the table.
@@ -135,68 +122,55 @@ fn push_key(alloc: Global, out: &mut Vec<u8>, table: &[u8]) -> Result<(), Memory
     push_signed(alloc, out, i64::from(BigEndian::read_i32(table)))
 }
 
-/// A key and the label of its offset.
-fn push_pair(alloc: Global, out: &mut Vec<u8>, pc: u32, table: &[u8]) -> Result<(), Memory>
-    requires { 8 ≤ length table.now }
-    ensures { OnOk result (out.new.items ≡ out.old.items ++ spaced (signed_decimal (twos_complement 4 (big_number 4 table.now)) ∷ label (pos pc +ℤ twos_complement 4 (big_number 4 (drop 4 table.now))) ∷ [])) }
+/// The key that begins the table, and the label of its target.
+fn push_pair(alloc: Global, out: &mut Vec<u8>, table: &[u8], target: i64) -> Result<(), Memory>
+    requires { 4 ≤ length table.now }
+    ensures { OnOk result (out.new.items ≡ out.old.items ++ spaced (signed_decimal (twos_complement 4 (big_number 4 table.now)) ∷ label target ∷ [])) }
 {
     push_key(alloc, out, table)?;
-    push_offset(alloc, out, pc, behind(table, 4))
+    push_target(alloc, out, target)
 }
 
-/// So many keys, each with the label of its offset.
-fn push_pairs(
-    alloc: Global,
-    out: &mut Vec<u8>,
-    pc: u32,
-    count: u32,
-    table: &[u8],
-) -> Result<(), Memory>
-    requires { 8 * count ≤ length table.now }
-    ensures { OnOk result (out.new.items ≡ out.old.items ++ spaced (pair_words count pc table.now)) }
+/// The keys of a table of pairs, each with the label of its target.
+fn push_pairs(alloc: Global, out: &mut Vec<u8>, table: &[u8], targets: &[i64]) -> Result<(), Memory>
+    requires { 8 * length targets.now ≤ length table.now }
+    ensures { OnOk result (out.new.items ≡ out.old.items ++ spaced (pair_words table.now targets.now)) }
 {
     let mut table = table;
-    for _ in 0..count {
-        push_pair(alloc, out, pc, table)?;
+    for target in targets {
+        push_pair(alloc, out, table, *target)?;
         table = behind(table, 8);
     }
     Ok(())
 }
 
-/// The words of a tableswitch with so many offsets.
-fn push_table(
-    alloc: Global,
-    out: &mut Vec<u8>,
-    pc: u32,
-    low: i32,
-    other: i32,
-    count: u64,
-    table: &[u8],
-) -> Result<(), Memory>
-    requires { AreOffsets count 4 table.now }
-    ensures { OnOk result (out.new.items ≡ out.old.items ++ joined (codes "tableswitch" ∷ signed_decimal low ∷ label (pos pc +ℤ other) ∷ map (λ by. label (pos pc +ℤ by)) (offsets_of count 4 table.now))) }
+/// The words of a tableswitch.
+fn push_table(alloc: Global, out: &mut Vec<u8>, low: i32, targets: &[i64]) -> Result<(), Memory>
+    ensures { OnOk result (out.new.items ≡ out.old.items ++ joined (codes "tableswitch" ∷ signed_decimal low ∷ map label targets.now)) }
 {
     out.extend_from_slice(b"tableswitch ")?;
     push_signed(alloc, out, i64::from(low))?;
-    push_target(alloc, out, pc, other)?;
-    push_targets(alloc, out, pc, count, table)
+    push_targets(alloc, out, targets)
 }
 
-/// The words of a lookupswitch with so many pairs.
+/// The words of a lookupswitch: the default's label, and the pairs of the table.
 fn push_lookup(
     alloc: Global,
     out: &mut Vec<u8>,
-    pc: u32,
-    other: i32,
-    count: u32,
     table: &[u8],
+    targets: &[i64],
 ) -> Result<(), Memory>
-    requires { 8 * count ≤ length table.now }
-    ensures { OnOk result (out.new.items ≡ out.old.items ++ joined (codes "lookupswitch" ∷ label (pos pc +ℤ other) ∷ pair_words count pc table.now)) }
+    requires { 8 * length targets.now ≤ length table.now + 8 }
+    ensures { OnOk result (out.new.items ≡ out.old.items ++ joined (codes "lookupswitch" ∷ lookup_words table.now targets.now)) }
 {
     out.extend_from_slice(b"lookupswitch")?;
-    push_target(alloc, out, pc, other)?;
-    push_pairs(alloc, out, pc, count, table)
+    match targets {
+        [default, targets @ ..] => {
+            push_target(alloc, out, *default)?;
+            push_pairs(alloc, out, table, targets)
+        }
+        [] => Ok(()),
+    }
 }
 
 /// The words of an instruction of this code.
@@ -207,10 +181,11 @@ fn push_words(
     code: &[u8],
     placed: &Placed,
 ) -> Result<(), Memory>
-    requires { IsPlacedIn code.now (seen placed.now) }
+    requires { IsPlacedIn code.now placed.now }
     ensures { OnOk result (out.new.items ≡ out.old.items ++ joined (insn_words pool.now code.now placed.now.pc placed.now.insn)) }
 {
-    let pc = placed.pc;
+    let targets = targets_of(alloc, code, placed)?;
+    let targets = targets.as_slice();
     match placed.insn {
         Insn::Plain(op) => push_op(out, op),
         Insn::Local { op, index, wide } => push_local(alloc, out, op, index, wide),
@@ -221,21 +196,10 @@ fn push_words(
             out.extend_from_slice(b"newarray ")?;
             push_kind(out, kind)
         }
-        Insn::Jump { op, by } => {
-            push_op(out, op)?;
-            push_target(alloc, out, pc, by)
-        }
-        Insn::TableSwitch {
-            other,
-            low,
-            high,
-            at,
-        } => {
-            let count = u64::from(high.abs_diff(low)) + 1;
-            push_table(alloc, out, pc, low, other, count, behind(code, at as usize))
-        }
-        Insn::LookupSwitch { other, pairs, at } => {
-            push_lookup(alloc, out, pc, other, pairs, behind(code, at as usize))
+        Insn::Jump { op, .. } => push_jump(alloc, out, op, targets),
+        Insn::TableSwitch { low, .. } => push_table(alloc, out, low, targets),
+        Insn::LookupSwitch { at, .. } => {
+            push_lookup(alloc, out, behind(code, at as usize), targets)
         }
     }
 }
@@ -248,7 +212,7 @@ pub fn push_insn(
     code: &[u8],
     placed: &Placed,
 ) -> Result<(), Memory>
-    requires { IsPlacedIn code.now (seen placed.now) }
+    requires { IsPlacedIn code.now placed.now }
     ensures { OnOk result (out.new.items ≡ out.old.items ++ line (insn_words pool.now code.now placed.now.pc placed.now.insn)) }
 {
     push_words(alloc, out, pool, code, placed)?;

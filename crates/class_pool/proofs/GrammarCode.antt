@@ -9,7 +9,8 @@ use Rattle.class_pool.specs.declared.classes.RowInfo.{RowInfo}
 use Rattle.class_pool.specs.declared.faults.ClassCode.{ClassCode}
 use Rattle.class_pool.specs.declared.faults.ClassCode.TheVariants.{CodeBounds}
 use Rattle.class_pool.specs.Items.{place_of}
-use Rattle.class_pool.specs.Code.{Placed, insns_of, first_bad_jump, row_fault, canonical_code}
+use Rattle.jo_insn.specs.declared.jumps.Placed.{Placed}
+use Rattle.class_pool.specs.Code.{insns_of, first_bad_jump, row_fault, canonical_code}
 use Rattle.class_pool.specs.ClassOrder.{Spelled, read_row, skip_attributes, read_spelled, jump_checked, row_checked, code_checked, read_code}
 use Rattle.class_pool.specs.ClassGrammar.{u2, u4, SpellsCounted, SpellsRow, AreAttributes, AreInsnsFrom, JumpsWell, IsRow, SpellsCode}
 use Rattle.class_pool.proofs.GrammarNumbers.{IsReadAs, ends, after, then_read, when, reads_more, joined, split, step, pass, SpellsBytes, number_read, number_again, two_read, two_again, bytes_read, bytes_again}

@@ -7,7 +7,8 @@ use Rattle.jo_insn.specs.Instructions.{decoded}
 use Rattle.jo_insn.proofs.DecodedMoves.{decoded-moves}
 use Rattle.class_pool.specs.declared.entries.PoolEntry.{PoolEntry}
 use Rattle.class_pool.specs.declared.faults.ClassCode.{ClassCode}
-use Rattle.class_pool.specs.Code.{Placed, insn_fault, insns_from, insns_of}
+use Rattle.jo_insn.specs.declared.jumps.Placed.{Placed}
+use Rattle.class_pool.specs.Code.{insn_fault, insns_from, insns_of}
 use Rattle.class_pool.specs.ClassGrammar.{AreInsnsFrom, ends, goes_on}
 
 module _ (pool : List PoolEntry) (code : List ℕ) where

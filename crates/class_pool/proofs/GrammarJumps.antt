@@ -10,7 +10,9 @@ use Rattle.std.proofs.lemmas.Bool.Decides.{Decides-and, Decides-or, Decides-eqb,
 use Rattle.class_pool.specs.declared.entries.PoolEntry.{PoolEntry}
 use Rattle.class_pool.specs.declared.classes.RowInfo.{RowInfo}
 use Rattle.class_pool.specs.declared.faults.ClassCode.TheVariants.{PoolIndex, CodeBounds}
-use Rattle.class_pool.specs.Code.{Placed, has_dims_that, dims_at, is_start, jumps_of, jumps_well, first_bad_jump, row_fault}
+use Rattle.jo_insn.specs.declared.jumps.Placed.{Placed}
+use Rattle.jo_insn.specs.Jumps.{is_start, jumps_of}
+use Rattle.class_pool.specs.Code.{has_dims_that, dims_at, jumps_well, first_bad_jump, row_fault}
 use Rattle.class_pool.specs.ClassGrammar.{IsStart, JumpsWell, IsRow}
 use Rattle.class_pool.proofs.GrammarParts.{dims_decided}
 

@@ -16,3 +16,8 @@ pub mod GrammarClass
 pub mod FirstFaultSteps
 pub mod FirstFaultEntries
 pub mod FirstFaultReferences
+pub mod KeptSizes
+pub mod KeptInsns
+pub mod KeptAgain
+pub mod GrammarBytes
+pub mod GrammarFits

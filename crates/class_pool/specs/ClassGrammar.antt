@@ -20,7 +20,9 @@ use Rattle.class_pool.specs.declared.classes.MethodInfo.{MethodInfo}
 use Rattle.class_pool.specs.declared.classes.CodeInfo.{CodeInfo}
 use Rattle.class_pool.specs.declared.classes.RowInfo.{RowInfo}
 use Rattle.class_pool.specs.Pool.{entry_at, utf8_at, class_name_at, desc_at, is_double}
-use Rattle.class_pool.specs.Code.{Placed, is_wide_desc, dims_of, insn_fault, jumps_of, canonical_code}
+use Rattle.jo_insn.specs.declared.jumps.Placed.{Placed}
+use Rattle.jo_insn.specs.Jumps.{jumps_of}
+use Rattle.class_pool.specs.Code.{is_wide_desc, dims_of, insn_fault, canonical_code}
 use Rattle.jo_insn.specs.AccessFlags.{has_flag, static_flag, synchronized_flag, native_flag, abstract_flag}
 use Rattle.class_pool.specs.ClassOrder.{fits_constant}
 

@@ -19,7 +19,8 @@ use Rattle.class_pool.specs.declared.faults.ClassCode.TheVariants.{Magic, Versio
 use Rattle.class_pool.specs.declared.faults.ClassFault.{ClassFault}
 use Rattle.class_pool.specs.Items.{◌>>=◌, place_of, fault, passing, number, bytes_of, two_numbers, many}
 use Rattle.class_pool.specs.Pool.{entry_at, utf8_at, is_text_that, is_text, first_failing, read_pool_from}
-use Rattle.class_pool.specs.Code.{Placed, is_wide_desc, has_dims_that, dims_at, insns_of, first_bad_jump, row_fault, canonical_code}
+use Rattle.jo_insn.specs.declared.jumps.Placed.{Placed}
+use Rattle.class_pool.specs.Code.{is_wide_desc, has_dims_that, dims_at, insns_of, first_bad_jump, row_fault, canonical_code}
 
 -- ---- parts
 

@@ -1,14 +1,14 @@
 -- Code (JVM Specification SE 8, 4.7.3, 4.9.1): first its instructions one after another, then their jumps, then the rows of
 -- its exception table. A fault here is a code and a pc, or a code and a row.
 use Rattle.std.specs.Prelude.{ℕ, zero, suc, ◌+◌, ◌-◌, Bool, true, false, ◌&&◌, ◌||◌, not, nat_lt, nat_le, ◌==◌, if◌then◌else◌, ℤ, pos, ◌+ℤ◌, ◌%◌, List, [], ◌∷◌, length, take, drop, Option, Some, None, Result, Ok, Err}
-use Rattle.std.specs.List.{list_any, list_all, flat_map}
-use Rattle.std.specs.Ordering.{int_eq}
-use Rattle.byteorder.specs.Endian.{big_number, twos_complement}
+use Rattle.std.specs.List.{list_all, flat_map}
 use Rattle.jo_insn.specs.declared.instructions.Insn.{Insn}
-use Rattle.jo_insn.specs.declared.instructions.Insn.TheVariants.{Pooled, Jump, TableSwitch, LookupSwitch}
+use Rattle.jo_insn.specs.declared.instructions.Insn.TheVariants.{Pooled, TableSwitch, LookupSwitch}
 use Rattle.jo_insn.specs.declared.instructions.InsnFault.{InsnFault}
 use Rattle.jo_insn.specs.declared.instructions.InsnFault.TheVariants as insn_faults
-use Rattle.jo_insn.specs.Instructions.{decoded, spelled, offsets_between}
+use Rattle.jo_insn.specs.declared.jumps.Placed.{Placed}
+use Rattle.jo_insn.specs.Instructions.{decoded, spelled}
+use Rattle.jo_insn.specs.Jumps.{jumps_of, is_start}
 use Rattle.class_pool.specs.declared.entries.PoolEntry.{PoolEntry}
 use Rattle.class_pool.specs.declared.entries.PoolEntry.TheVariants.{Integer, Float, Class, Text, FieldRef, MethodRef, InterfaceMethodRef, MethodHandle, MethodType}
 use Rattle.class_pool.specs.declared.classes.RowInfo.{RowInfo}
@@ -111,12 +111,6 @@ code_for (insn_faults.Unknown op) = BadOpcode
 code_for (insn_faults.Outside op) = Unsupported (Opcode op)
 code_for insn_faults.Malformed = CodeBounds
 
--- an instruction with its pc and the next one
-pub record Placed : Type 0 where
-  pub pc : ℕ
-  pub insn : Insn
-  pub next : ℕ
-
 abbrev pub placed_at : List PoolEntry → ℕ → Result (Insn × ℕ) InsnFault → Result Placed (ClassCode × ℕ)
 placed_at pool pc (Err e) = Err (code_for e, pc)
 placed_at pool pc (Ok found) = unless_code (insn_fault pool found.0) pc (record { pc = pc; insn = found.0; next = found.1 })
@@ -142,22 +136,6 @@ abbrev pub insns_of : List PoolEntry → List ℕ → Result (List Placed) (Clas
 insns_of pool code = insns_from (length code) pool code 0
 
 -- ---- jumps
-
--- so many offsets, each four bytes and every so many bytes
-abbrev pub offsets_of : ℕ → ℕ → List ℕ → List ℤ
-offsets_of zero step table = []
-offsets_of (suc n) step table = twos_complement 4 (big_number 4 table) ∷ offsets_of n step (drop step table)
-
--- the distances that an instruction of this code may jump
-abbrev pub jumps_of : List ℕ → Insn → List ℤ
-jumps_of code (Jump op by) = by ∷ []
-jumps_of code (TableSwitch other low high at) = other ∷ offsets_of (offsets_between low high) 4 (drop at code)
-jumps_of code (LookupSwitch other pairs at) = other ∷ offsets_of pairs 8 (drop (at + 4) code)
-jumps_of code _ = []
-
--- a pc, maybe past either end of the code, is where an instruction starts
-abbrev pub is_start : List Placed → ℤ → Bool
-is_start insns target = list_any (λ (placed : Placed). int_eq (pos placed.pc) target) insns
 
 abbrev pub jumps_well : List ℕ → List Placed → Placed → Bool
 jumps_well code insns placed = list_all (λ by. is_start insns (pos placed.pc +ℤ by)) (jumps_of code placed.insn)

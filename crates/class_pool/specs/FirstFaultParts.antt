@@ -16,7 +16,8 @@ use Rattle.class_pool.specs.declared.faults.ClassCode.TheVariants.{PoolIndex, Ba
 use Rattle.class_pool.specs.declared.faults.ClassFault.{ClassFault}
 use Rattle.class_pool.specs.Items.{place_of, fault}
 use Rattle.class_pool.specs.Pool.{entry_at, utf8_at, class_name_at}
-use Rattle.class_pool.specs.Code.{Placed, is_wide_desc, dims_of, insn_fault, code_for}
+use Rattle.jo_insn.specs.declared.jumps.Placed.{Placed}
+use Rattle.class_pool.specs.Code.{is_wide_desc, dims_of, insn_fault, code_for}
 use Rattle.jo_insn.specs.AccessFlags.{has_flag, static_flag, synchronized_flag, native_flag}
 use Rattle.class_pool.specs.ClassOrder.{fits_constant}
 use Rattle.class_pool.specs.ClassGrammar.{u2, SpellsEach, Attribute, SpellsAttribute, HasConstant, AreInsnsFrom, IsStart, JumpsWell, IsRow, SpellsRow, HasCodes, codes_in, HasBody}

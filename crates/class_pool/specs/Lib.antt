@@ -11,3 +11,4 @@ pub mod FirstFaultItems
 pub mod FirstFaultPool
 pub mod FirstFaultParts
 pub mod FirstFault
+pub mod Fitting

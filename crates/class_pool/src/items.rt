@@ -1,6 +1,6 @@
 //! Items of a class file, read from left to right. `rest` is what the file has from some item on, and `size` the file's
 //! length: an item's place is what the two differ by.
-ghost use Rattle.std.specs.Prelude.{◌≡◌, drop};
+ghost use Rattle.std.specs.Prelude.{◌≡◌};
 ghost use Rattle.class_pool.specs.Items.{number, bytes_of, two_numbers, place_of, fault};
 ghost use Rattle.class_pool.specs.Outcomes.{Gives};
 ghost use Rattle.class_pool.specs.declared.faults.ClassCode.TheVariants.{Truncated};
@@ -70,13 +70,6 @@ pub fn two_numbers(size: u32, rest: &[u8]) -> Result<((u16, u16), &[u8]), Stop>
     let (first, rest) = number_of_two(size, rest)?;
     let (second, rest) = number_of_two(size, rest)?;
     Ok(((first, second), rest))
-}
-
-/// What follows so many bytes: nothing where there are fewer.
-pub fn behind(rest: &[u8], count: usize) -> &[u8]
-    ensures { result.now ≡ drop count rest.now }
-{
-    &rest[count.min(rest.len())..]
 }
 
 /// So many bytes, and what follows.

@@ -5,6 +5,7 @@ ghost use Rattle.class_pool.specs.ClassOrder.{class_of};
 ghost use Rattle.class_pool.specs.ClassGrammar.{IsClass};
 ghost use Rattle.class_pool.specs.Pool.{pool_of};
 ghost use Rattle.class_pool.specs.FirstFaultPool.{PoolStops};
+ghost use Rattle.class_pool.specs.Fitting.{FitsClass};
 ghost use Rattle.class_pool.specs.declared.classes.ClassFile.{ClassFile};
 ghost use Rattle.class_pool.specs.declared.faults.ClassFault.{ClassFault};
 
@@ -21,4 +22,9 @@ pub fn one_class()
 /// The first fault of the pool of a file, which begins at byte 8, is that of its items in order.
 pub fn pool_fault_is_by_items()
     ensures { (file : List ℕ) (f : ClassFault) → AllByRecursion (λ byte. byte < 2 ^ 8) file → (pool_of file ≡ Err f) ↔ PoolStops (length file) (drop 8 file) f }
+{}
+
+/// What is read as a class can be written.
+pub fn what_is_read_fits()
+    ensures { (bytes : List ℕ) (c : ClassFile) → IsClass bytes c → FitsClass c }
 {}

@@ -6,12 +6,13 @@ ghost use Rattle.class_pool.specs.Outcomes.{Gives, Answers};
 use crate::entries::{Pool, PoolEntry};
 use crate::faults::{ClassCode, ClassFault, Stop};
 use crate::items::{
-    behind, bytes_of, fault_at, number_of_eight, number_of_four, number_of_one, number_of_two,
-    place_of, two_numbers,
+    bytes_of, fault_at, number_of_eight, number_of_four, number_of_one, number_of_two, place_of,
+    two_numbers,
 };
 use crate::known::KnownPool;
 use crate::references::reference_fault;
 use jo_ids::List;
+use jo_insn::behind;
 use jo_text::{Name, is_mutf8};
 use std::alloc::Global;
 

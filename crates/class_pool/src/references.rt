@@ -6,8 +6,9 @@ ghost use Rattle.class_pool.specs.declared.faults.ClassCode.TheVariants.{PoolInd
 
 use crate::entries::{PoolEntry, entry_at, utf8_at};
 use crate::faults::{ClassCode, ClassFault};
-use crate::items::{behind, place_of};
+use crate::items::place_of;
 use crate::known::KnownPool;
+use jo_insn::behind;
 
 /// The code where not all indices that an entry names fit, or else where not all texts do.
 fn fault_unless(there: bool, fits: bool) -> Option<ClassCode>

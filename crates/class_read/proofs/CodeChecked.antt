@@ -10,12 +10,15 @@ use Rattle.class_pool.specs.declared.faults.Stop.{Stop}
 use Rattle.class_pool.specs.declared.faults.Stop.TheVariants.{Fault, Memory}
 use Rattle.class_pool.specs.Outcomes.{Fails}
 use Rattle.class_pool.specs.Pool.{first_failing}
-use Rattle.class_pool.specs.Code.{Placed, insns_of, is_start, first_bad_jump, row_questions, row_fault, canonical_code}
+use Rattle.jo_insn.specs.declared.jumps.Placed.{Placed}
+use Rattle.jo_insn.specs.Jumps.{is_start}
+use Rattle.class_pool.specs.Code.{insns_of, first_bad_jump, row_questions, row_fault, canonical_code}
 use Rattle.class_pool.specs.ClassOrder.{Spelled, jump_checked, row_checked, code_checked}
 use Rattle.class_pool.specs.ClassGrammar.{AreInsnsFrom, ends, goes_on}
 use Rattle.class_pool.proofs.GrammarInsns.{insns_of_grammar}
 use Rattle.class_read.specs.Codes.{located}
-use Rattle.class_read.specs.Starts.{IsPlacedIn, jumps_pass, row_by, rows_by, rows_pass}
+use Rattle.jo_insn.specs.Jumps.{IsPlacedIn}
+use Rattle.class_read.specs.Starts.{jumps_pass, row_by, rows_by, rows_pass}
 
 -- ---- instructions
 

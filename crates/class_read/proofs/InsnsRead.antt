@@ -12,7 +12,8 @@ use Rattle.class_pool.specs.declared.faults.ClassFault.{ClassFault}
 use Rattle.class_pool.specs.declared.faults.Stop.{Stop}
 use Rattle.class_pool.specs.declared.faults.Stop.TheVariants.{Fault, Memory}
 use Rattle.class_pool.specs.Outcomes.{Fails}
-use Rattle.class_pool.specs.Code.{Placed, insn_fault, placed_at, insns_from, insns_of}
+use Rattle.jo_insn.specs.declared.jumps.Placed.{Placed}
+use Rattle.class_pool.specs.Code.{insn_fault, placed_at, insns_from, insns_of}
 use Rattle.class_read.specs.Codes.{located}
 
 abbrev pub with_insns : List Placed → Result (List Placed) ClassFault → Result (List Placed) ClassFault

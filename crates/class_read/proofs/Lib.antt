@@ -6,7 +6,4 @@ mod Skipping
 pub mod CodeRoom
 pub mod InsnsRead
 pub mod CodeJumps
-pub mod CodeStarts
-pub mod CodeSwitch
-pub mod CodeKept
 pub mod CodeChecked

@@ -16,7 +16,8 @@ use Rattle.class_pool.specs.declared.faults.ClassCode.TheVariants.{Memory}
 use Rattle.class_pool.specs.declared.faults.ClassFault.{ClassFault}
 use Rattle.class_pool.specs.Items.{◌>>=◌, place_of, number, bytes_of, two_numbers, many}
 use Rattle.class_pool.specs.Pool.{entry_size, entry_at, utf8_at, first_failing, questions, unless_fault, read_utf8, read_one, read_pair, read_handle, read_indices, read_tagged, read_entry, read_entries, reference_fault, read_pool_from}
-use Rattle.class_pool.specs.Code.{Placed, is_wide_desc, code_for, constant_fault, wide_member, field_fault, method_fault, interface_fault, or_else, class_method_fault, index_unless, pooled_fault, insn_fault, placed_at, insns_from, first_bad_jump, row_questions, row_fault}
+use Rattle.jo_insn.specs.declared.jumps.Placed.{Placed}
+use Rattle.class_pool.specs.Code.{is_wide_desc, code_for, constant_fault, wide_member, field_fault, method_fault, interface_fault, or_else, class_method_fault, index_unless, pooled_fault, insn_fault, placed_at, insns_from, first_bad_jump, row_questions, row_fault}
 use Rattle.jo_insn.specs.AccessFlags.{has_flag, native_flag, abstract_flag, synchronized_flag}
 use Rattle.class_pool.specs.ClassOrder.{class_index, text_index, read_head, skip_attribute, skip_attributes, constant_value, field_attribute, field_attributes, read_field, read_row, Spelled, read_spelled, jump_checked, row_checked, code_checked, read_code, method_attributes, method_questions, read_method, read_behind, class_of}
 use Rattle.class_read.specs.Methods.{code_or_other, method_attribute}

@@ -1,12 +1,10 @@
 -- Code in memory, against the definitions.
-use Rattle.std.specs.Prelude.{ℕ, ◌+◌, ◌*◌, ◌^◌, ◌<◌, List, length, map, Result, Ok, Err}
+use Rattle.std.specs.Prelude.{ℕ, ◌+◌, ◌*◌, ◌^◌, ◌<◌, length, Result, Ok, Err}
 use Rattle.class_pool.specs.declared.faults.ClassCode.{ClassCode}
 use Rattle.class_pool.specs.declared.faults.ClassFault.{ClassFault}
 use Rattle.class_pool.specs.Items.{fault}
-use Rattle.class_pool.specs.Code as Code
 use Rattle.class_pool.specs.ClassOrder as ClassOrder
 use Rattle.class_read.specs.declared.code.Spelled.{Spelled}
-use Rattle.class_read.specs.declared.instructions.Placed.{Placed}
 
 -- what was read of an attribute Code
 abbrev pub spelled_of : Spelled → ClassOrder.Spelled
@@ -17,14 +15,6 @@ abbrev pub HasRoom : Spelled → Type 0
 HasRoom s = (length s.code.now < 2 ^ 16) × (s.code_place + length s.code.now < 2 ^ 32) × (s.rows_place + 8 * length s.rows < 2 ^ 32)
 
 -- ---- instructions
-
--- an instruction with its pc and the next one
-abbrev pub seen : Placed → Code.Placed
-seen placed = record { pc = placed.pc; insn = placed.insn; next = placed.next }
-
--- the instructions
-abbrev pub all_seen : List Placed → List Code.Placed
-all_seen insns = map seen insns
 
 -- what is read at a pc of code that stands at this place of the file
 abbrev pub located : {A : Type 0} → ℕ → Result A (ClassCode × ℕ) → Result A ClassFault

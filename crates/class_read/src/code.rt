@@ -7,12 +7,13 @@ ghost use Rattle.class_pool.specs.Outcomes.{Gives};
 ghost use Rattle.class_read.specs.Codes.{spelled_of, HasRoom};
 
 use crate::instructions::instructions;
-use crate::jumps::{check_jumps, check_rows, starts};
+use crate::jumps::{check_jumps, check_rows};
 use crate::kept::kept_code;
 use crate::parts::skip_attributes;
 use class_pool::items::{bytes_of, fault_at, number_of_four, number_of_two, place_of, two_numbers};
 use class_pool::{ClassCode, CodeInfo, KnownPool, RowInfo, Stop};
 use jo_ids::List;
+use jo_insn::starts_of;
 use jo_text::Name;
 use std::alloc::Global;
 
@@ -107,13 +108,12 @@ fn checked(alloc: Global, pool: &KnownPool, spelled: &Spelled) -> Result<Name, S
     let code = spelled.code;
     let insns = instructions(alloc, spelled.code_place, pool, code)?;
     let insns = insns.as_slice();
-    let starts = starts(alloc, code.len(), insns)?;
-    let starts = starts.as_slice();
-    check_jumps(spelled.code_place, starts, code, insns)?;
+    let starts = starts_of(alloc, code.len(), insns)?;
+    check_jumps(alloc, spelled.code_place, &starts, code, insns)?;
     check_rows(
         spelled.rows_place,
         pool,
-        starts,
+        &starts,
         code.len(),
         spelled.rows.as_slice(),
     )?;

@@ -3,22 +3,14 @@ ghost use Rattle.std.specs.Prelude.{◌≡◌, ◌+◌, ◌^◌, ◌<◌, ◌≤
 ghost use Rattle.jo_insn.specs.Instructions.{decoded};
 ghost use Rattle.class_pool.specs.Code;
 ghost use Rattle.class_pool.specs.Outcomes.{Gives};
-ghost use Rattle.class_read.specs.Codes.{seen, all_seen, located};
+ghost use Rattle.class_read.specs.Codes.{located};
 
 use crate::operands::insn_fault;
 use class_pool::items::fault_at;
 use class_pool::{ClassCode, Cut, KnownPool, Stop};
 use jo_ids::List;
-use jo_insn::{Insn, InsnFault, decode};
+use jo_insn::{InsnFault, Placed, decode};
 use std::alloc::Global;
-
-/// An instruction with its pc and the next one.
-#[derive(Clone, Copy)]
-pub struct Placed {
-    pub pc: u32,
-    pub insn: Insn,
-    pub next: u32,
-}
 
 fn code_for(fault: InsnFault) -> ClassCode
     ensures { result ≡ Code.code_for fault }
@@ -35,7 +27,7 @@ fn placed_at(place: u32, pool: &KnownPool, code: &[u8], pc: u32) -> Result<Place
     requires within { pc < length code.now }
     requires room { place + length code.now < 2 ^ 32 }
     requires few { length code.now < 2 ^ 16 }
-    ensures { Gives (λ x. seen x) result (located place (Code.placed_at pool.now pc (decoded code.now pc))) }
+    ensures { Gives (λ x. x) result (located place (Code.placed_at pool.now pc (decoded code.now pc))) }
 {
     match decode(code, pc) {
         Ok((insn, next)) => match insn_fault(pool, &insn) {
@@ -55,7 +47,7 @@ pub fn instructions(
 ) -> Result<List<Placed>, Stop>
     requires room { place + length code.now < 2 ^ 32 }
     requires few { length code.now < 2 ^ 16 }
-    ensures { Gives (λ x. all_seen x) result (located place (Code.insns_of pool.now code.now)) }
+    ensures { Gives (λ x. x) result (located place (Code.insns_of pool.now code.now)) }
 {
     let mut insns = List::new(alloc);
     let mut pc = 0;

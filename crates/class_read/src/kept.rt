@@ -1,16 +1,14 @@
 //! The code that is kept of a method: its instructions as they are spelled with zero padding.
-ghost use Rattle.std.specs.Prelude.{◌≡◌, ◌-◌, ◌++◌, ◌≤◌, length, take, drop, IfOk, Ok, OnOk};
+ghost use Rattle.std.specs.Prelude.{◌≡◌, ◌-◌, ◌++◌, ◌≤◌, length, take, drop, IfOk, OnOk};
 ghost use Rattle.std.specs.List.{AllByRecursion};
-ghost use Rattle.jo_insn.specs.Instructions.{decoded, spelled};
+ghost use Rattle.jo_insn.specs.Instructions.{spelled};
+ghost use Rattle.jo_insn.specs.Jumps.{IsPlacedIn};
 ghost use Rattle.class_pool.specs.Pool.{entry_at as entry_with};
 ghost use Rattle.class_pool.specs.Code;
-ghost use Rattle.class_read.specs.Codes.{seen, all_seen};
-ghost use Rattle.class_read.specs.Starts.{IsPlacedIn};
 ghost use Rattle.class_read.specs.Kept.{words_of};
 
-use crate::instructions::Placed;
 use class_pool::{KnownPool, PoolEntry, entry_at};
-use jo_insn::{Insn, encode};
+use jo_insn::{Insn, Placed, encode};
 use jo_text::Name;
 use std::alloc::{AllocError, Global};
 
@@ -44,8 +42,8 @@ fn add_placed(
     placed: &Placed,
     kept: &mut Vec<u8>,
 ) -> Result<(), AllocError>
-    requires { decoded code.now placed.now.pc ≡ Ok (placed.now.insn, placed.now.next) }
-    ensures { OnOk result (kept.new.items ≡ kept.old.items ++ spelled placed.now.pc placed.now.insn (Code.canonical_table pool.now code.now (seen placed.now))) }
+    requires { IsPlacedIn code.now placed.now }
+    ensures { OnOk result (kept.new.items ≡ kept.old.items ++ spelled placed.now.pc placed.now.insn (Code.canonical_table pool.now code.now placed.now)) }
 {
     let pc = placed.pc;
     match placed.insn {
@@ -73,8 +71,8 @@ pub fn kept_code(
     code: &[u8],
     insns: &[Placed],
 ) -> Result<Name, AllocError>
-    requires { AllByRecursion (IsPlacedIn code.now) (all_seen insns.now) }
-    ensures { IfOk result (λ kept. kept ≡ Code.canonical_code pool.now code.now (all_seen insns.now)) }
+    requires { AllByRecursion (IsPlacedIn code.now) insns.now }
+    ensures { IfOk result (λ kept. kept ≡ Code.canonical_code pool.now code.now insns.now) }
 {
     let mut kept = Vec::with_capacity(alloc, code.len())?;
     for placed in insns {

@@ -1,6 +1,1 @@
-pub mod Sizes
-mod Kept
-pub mod Fits
-pub mod Bytes
-pub mod Again
 mod Written

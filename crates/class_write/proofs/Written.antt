@@ -19,11 +19,12 @@ use Rattle.jo_insn.specs.AccessFlags.{has_flag, static_flag}
 use Rattle.class_pool.specs.ClassOrder.{fits_constant}
 use Rattle.class_pool.specs.Writing.{spelled_entry}
 use Rattle.class_pool.specs.ClassGrammar.{u2, u4, SpellsEach, SpellsEntry, SpellsEntries, no_entry, single, twofold, Attribute, SpellsAttribute, SpellsAttributes, HasConstant, no_constant, not_constant, constant_value, SpellsField, SpellsRow, SpellsCode, HasCodes, no_code, not_code, code_attribute, codes_in, SpellsMethod, SpellsClassIndex, IsClass}
-use Rattle.class_write.specs.Spelling.{is_text_of, index_from, text_index, counted, spelled_constant, spelled_field, spelled_row, code_size, spelled_content, spelled_code, spelled_method, spelled_class, HasText, FitsContent}
-use Rattle.class_write.proofs.Sizes.{kept_length}
-use Rattle.class_write.proofs.Again.{again, all_same, code_same, jumps_again, rows_again}
-use Rattle.class_write.proofs.Fits.{each_so, pool_fits, content_fits}
-use Rattle.class_write.proofs.Bytes.{AllBytes, bytes_behind, InBytes, each_in_bytes, code_bytes, contents_bytes, methods_bytes}
+use Rattle.class_pool.specs.Fitting.{HasText, FitsContent}
+use Rattle.class_write.specs.Spelling.{is_text_of, index_from, text_index, counted, spelled_constant, spelled_field, spelled_row, code_size, spelled_content, spelled_code, spelled_method, spelled_class}
+use Rattle.class_pool.proofs.KeptSizes.{kept_length}
+use Rattle.class_pool.proofs.KeptAgain.{again, all_same, code_same, jumps_again, rows_again}
+use Rattle.class_pool.proofs.GrammarFits.{each_so, pool_fits, content_fits}
+use Rattle.class_pool.proofs.GrammarBytes.{AllBytes, bytes_behind, InBytes, each_in_bytes, code_bytes, contents_bytes, methods_bytes}
 
 -- ---- the first entry that spells a text
 

@@ -7,7 +7,8 @@ use Rattle.class_pool.specs.declared.classes.MethodInfo.{MethodInfo}
 use Rattle.class_pool.specs.declared.classes.CodeInfo.{CodeInfo}
 use Rattle.class_pool.specs.ClassGrammar.{u2, u4}
 use Rattle.class_write.specs.declared.members.AttributeNames.{AttributeNames}
-use Rattle.class_write.specs.Spelling.{text_index, spelled_head, code_size, spelled_content, FitsContent}
+use Rattle.class_pool.specs.Fitting.{FitsContent}
+use Rattle.class_write.specs.Spelling.{text_index, spelled_head, code_size, spelled_content}
 
 -- the indices in a pool
 abbrev pub names_in : List PoolEntry → AttributeNames

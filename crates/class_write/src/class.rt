@@ -3,7 +3,8 @@ ghost use Rattle.std.specs.Prelude.{◌≡◌, ◌<◌, ◌^◌, ◌++◌, lengt
 ghost use Rattle.std.specs.List.{flat_map};
 ghost use Rattle.class_pool.specs.ClassGrammar.{u2, u4};
 ghost use Rattle.class_pool.specs.Writing.{spelled_pool};
-ghost use Rattle.class_write.specs.Spelling.{spelled_class, spelled_field, spelled_method, counted, FitsClass};
+ghost use Rattle.class_pool.specs.Fitting.{FitsClass};
+ghost use Rattle.class_write.specs.Spelling.{spelled_class, spelled_field, spelled_method, counted};
 
 use crate::members::{add_members, attribute_names};
 use crate::numbers::{add_four, add_two};

@@ -4,12 +4,7 @@ ghost use Rattle.std.specs.List.{AllByRecursion};
 ghost use Rattle.class_pool.specs.ClassGrammar.{IsClass};
 ghost use Rattle.class_pool.specs.ClassOrder.{class_of};
 ghost use Rattle.class_pool.specs.declared.classes.ClassFile.{ClassFile};
-ghost use Rattle.class_write.specs.Spelling.{spelled_class, FitsClass};
-
-/// What is read as a class can be written.
-pub fn what_is_read_fits()
-    ensures { (bytes : List ℕ) (c : ClassFile) → IsClass bytes c → FitsClass c }
-{}
+ghost use Rattle.class_write.specs.Spelling.{spelled_class};
 
 /// What is written of a class that was read is that class, by the grammar and as it is read.
 pub fn written_is_read()

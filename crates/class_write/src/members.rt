@@ -1,7 +1,8 @@
 //! Writes fields and methods (JVM Specification SE 8, 4.5 to 4.7).
 ghost use Rattle.std.specs.Prelude.{◌≡◌, ◌<◌, ◌^◌, ◌++◌, length, Some, OnOk};
 ghost use Rattle.std.specs.List.{AllByRecursion, flat_map};
-ghost use Rattle.class_write.specs.Spelling.{spelled_head, spelled_row, spelled_content, FitsContent, counted};
+ghost use Rattle.class_pool.specs.Fitting.{FitsContent};
+ghost use Rattle.class_write.specs.Spelling.{spelled_head, spelled_row, spelled_content, counted};
 ghost use Rattle.class_write.specs.Named.{names_in, attribute_named, constant_named, field_named, code_named, method_named, HasFittingCode};
 
 use crate::numbers::{add_four, add_two, text_index};

@@ -4,3 +4,7 @@ pub mod Numbers
 pub mod SpelledIsDecoded
 pub mod SpelledFromDecoded
 pub mod DecoderLemmas
+pub mod SwitchTables
+pub mod InsnTables
+pub mod PcMarkLemmas
+pub mod OffsetSteps

@@ -4,3 +4,5 @@ pub mod ArrayKinds
 pub mod Instructions
 pub mod Rows
 pub mod Keys
+pub mod Jumps
+pub mod Marks

@@ -12,7 +12,7 @@ use byteorder::{BigEndian, ByteOrder};
 const LAST_OPCODE: u8 = 201;
 
 /// The bytes behind the first `count`: none where there are no more.
-fn behind(bytes: &[u8], count: usize) -> &[u8]
+pub fn behind(bytes: &[u8], count: usize) -> &[u8]
     ensures { result.now ≡ drop count bytes.now }
 {
     if count < bytes.len() {

@@ -1,7 +1,5 @@
 use Rattle.std.proofs.Common.{◌<◌, ◌-◌, length, [], ◌∷◌, sym, ◌∙◌, arith}
-use Rattle.std.proofs.lemmas.List.{map-append}
 use Rattle.jo_insn.proofs.DecodedMoves.{decoded-moves}
-use Rattle.class_dis.specs.Insns.{seen, all_seen}
 use Rattle.class_dis.proofs.InsnSteps.{begins, takes, is_all}
 use Rattle.class_dis.proofs.instructions.instructions.Goals as goal
 
@@ -16,8 +14,8 @@ loop-insn-smaller c =
 
 pub loop-insn-preserved : goal.loop-insn-preserved
 loop-insn-preserved c =
-    rw (c.in-Ok-push.ensures.ok, map-append seen c.loop-insn.insns (record { pc = c.loop-insn.pc; insn = c.in-Ok.insn; next = c.in-Ok.next } ∷ []))
-    (takes c.args.code.now (all_seen c.loop-insn.insns) c.loop-insn.pc c.in-Ok.next c.in-Ok.insn (sym c.decode.ensures ∙ c.in-Ok.is) c.loop-insn.invariant)
+    rw c.in-Ok-push.ensures.ok
+    (takes c.args.code.now c.loop-insn.insns c.loop-insn.pc c.in-Ok.next c.in-Ok.insn (sym c.decode.ensures ∙ c.in-Ok.is) c.loop-insn.invariant)
 
 pub returns : goal.returns
-returns c = is_all c.args.code.now (all_seen c.loop-insn.insns) c.loop-insn.pc c.in_default.field-0 (sym c.decode.ensures ∙ c.in_default.is) c.loop-insn.invariant
+returns c = is_all c.args.code.now c.loop-insn.insns c.loop-insn.pc c.in_default.field-0 (sym c.decode.ensures ∙ c.in_default.is) c.loop-insn.invariant

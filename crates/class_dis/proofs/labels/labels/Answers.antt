@@ -1,8 +1,8 @@
 use Rattle.std.proofs.Common.{◌≡◌, ◌+◌, false, length, replicate, sym, subst, rules}
 use Rattle.std.specs.Prelude.{List}
 use Rattle.std.specs.List.{AllByRecursion}
-use Rattle.class_pool.specs.Code.{Placed}
-use Rattle.class_dis.specs.Insns.{IsPlacedIn}
+use Rattle.jo_insn.specs.declared.jumps.Placed.{Placed}
+use Rattle.jo_insn.specs.Jumps.{IsPlacedIn}
 use Rattle.class_dis.proofs.InsnSteps.{all_placed}
 use Rattle.class_dis.proofs.LabelMarks.{labels_are}
 use Rattle.class_dis.proofs.labels.labels.Goals as goal
@@ -15,7 +15,7 @@ mark_jumps-requires c =
 pub returns : goal.returns
 returns c =
     let code = c.args.code.now in
-    let jumps = rw c.as_slice-bytes.ensures at c.mark_jumps.ensures in
+    let jumps = rw c.as_slice-bytes.ensures at c.in_ok-mark_jumps.ensures in
     let rows = rw c.as_slice.ensures at c.mark_rows.ensures in
-    let none : c.in_ok-marks.marks.items ≡ replicate (length code.bytes + 1) false = search rules in
-    labels_are code c.in_ok-marks.marks.items c.mark_jumps.new.marks.items c.mark_rows.new.marks.items none (rw c.requires.insns at jumps) rows
+    let none : c.in_ok-marks.marks ≡ replicate (length code.bytes + 1) false = search rules in
+    labels_are code c.in_ok-marks.marks c.mark_jumps.new.marks c.mark_rows.new.marks none (rw c.requires.insns at jumps) rows

@@ -1,20 +1,16 @@
 use Rattle.std.proofs.Common.{ℕ, drop, arith}
 use Rattle.std.proofs.lemmas.List.{length-drop}
-use Rattle.jo_insn.specs.Instructions.{offsets_between}
-use Rattle.class_read.proofs.CodeSwitch.{offsets_end, count_is, pairs_end, four_apart}
+use Rattle.jo_insn.proofs.SwitchTables.{pairs_end}
+use Rattle.class_dis.proofs.SwitchSteps.{lookup_targets}
 use Rattle.class_dis.proofs.operands.push_words.Goals as goal
-
-pub push_table-requires : goal.push_table-requires
-push_table-requires c =
-    let is = rw c.in-TableSwitch.is at c.requires in
-    let bytes = λ (k : ℕ). (c.type_inv.code k).fits in
-    let end = offsets_end c.args.code.now bytes c.args.placed.now.pc c.args.placed.now.next c.in-TableSwitch.other c.in-TableSwitch.low c.in-TableSwitch.high c.in-TableSwitch.at is in
-    let count = count_is c.args.code.now bytes c.args.placed.now.pc c.args.placed.now.next c.in-TableSwitch.other c.in-TableSwitch.low c.in-TableSwitch.high c.in-TableSwitch.at is in
-    let left = length-drop c.in-TableSwitch.at c.args.code.now in
-    rw (c.behind.ensures, c.from-count.ensures, c.abs_diff.ensures, count) (four_apart (offsets_between c.in-TableSwitch.low c.in-TableSwitch.high) (drop c.in-TableSwitch.at c.args.code.now) (omega (arith, end.0, end.1)))
 
 pub push_lookup-requires : goal.push_lookup-requires
 push_lookup-requires c =
-    let end = pairs_end c.args.code.now (λ k. (c.type_inv.code k).fits) c.args.placed.now.pc c.args.placed.now.next c.in-LookupSwitch.other c.in-LookupSwitch.pairs c.in-LookupSwitch.at (rw c.in-LookupSwitch.is at c.requires) in
-    let left = length-drop c.in-LookupSwitch.at c.args.code.now in
-    rw c.behind-in-LookupSwitch.ensures (omega (arith, end.0, end.1))
+    let other = c.in-LookupSwitch.other in
+    let at = c.in-LookupSwitch.at in
+    let pairs = c.in-LookupSwitch.pairs in
+    let pc = c.args.placed.now.pc in
+    let end = pairs_end c.args.code.now (λ k. (c.type_inv.code k).fits) pc c.args.placed.now.next other pairs at (rw c.in-LookupSwitch.is at c.requires) in
+    let left = length-drop at c.args.code.now in
+    let targets = rw c.in-LookupSwitch.is at c.in_ok-targets.ensures in
+    rw (c.behind.ensures, c.as_slice-targets.ensures.value, targets, lookup_targets c.args.code.now pc pairs at other) (omega (arith, end.0, end.1))

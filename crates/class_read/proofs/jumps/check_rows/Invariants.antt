@@ -1,5 +1,6 @@
 use Rattle.std.proofs.Common.{◌≡◌, drop}
-use Rattle.class_read.specs.Starts.{is_marked, rows_by}
+use Rattle.jo_insn.specs.Marks.{is_marked}
+use Rattle.class_read.specs.Starts.{rows_by}
 use Rattle.class_read.proofs.jumps.check_rows.Given as goal
 
 abbrev pub invariant-loop-k : goal.invariant-loop-k

@@ -1,6 +1,6 @@
 use Rattle.std.proofs.Common.{ℕ, refl, arith}
-use Rattle.class_read.proofs.CodeSwitch.{offsets_end, pairs_end}
-use Rattle.class_read.proofs.CodeKept.{call_kept, pooled_kept, offsets_kept, pairs_kept, others_kept}
+use Rattle.jo_insn.proofs.SwitchTables.{offsets_end, pairs_end}
+use Rattle.jo_insn.proofs.InsnTables.{call_kept, pooled_kept, offsets_kept, pairs_kept, others_kept}
 use Rattle.class_read.proofs.kept.add_placed.Goals as goal
 
 pub encode-requires : goal.encode-requires

@@ -6,7 +6,7 @@ use Rattle.class_pool.specs.declared.classes.ClassFile.{ClassFile}
 use Rattle.class_pool.specs.declared.classes.MethodInfo.{MethodInfo}
 use Rattle.class_pool.specs.declared.classes.CodeInfo.{CodeInfo}
 use Rattle.class_pool.specs.ClassGrammar.{u2, u4, SpellsEach, Attribute, SpellsAttribute, SpellsCode, SpellsMethod, IsClass}
-use Rattle.class_write.proofs.Fits.{each_so}
+use Rattle.class_pool.proofs.GrammarFits.{each_so}
 
 abbrev pub AllBytes : List ℕ → Type 0
 AllBytes xs = AllByRecursion (λ (byte : ℕ). byte < 2 ^ 8) xs

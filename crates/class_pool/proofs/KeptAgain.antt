@@ -12,10 +12,12 @@ use Rattle.jo_insn.proofs.Numbers.{AreBytes}
 use Rattle.jo_insn.proofs.SpelledIsDecoded.{spelled_is_decoded}
 use Rattle.class_pool.specs.declared.entries.PoolEntry.{PoolEntry}
 use Rattle.class_pool.specs.declared.classes.RowInfo.{RowInfo}
-use Rattle.class_pool.specs.Code.{Placed, canonical_table, canonical_code, jumps_of, offsets_of}
+use Rattle.jo_insn.specs.declared.jumps.Placed.{Placed}
+use Rattle.jo_insn.specs.Jumps.{jumps_of, offsets_of}
+use Rattle.class_pool.specs.Code.{canonical_table, canonical_code}
 use Rattle.class_pool.specs.ClassGrammar.{AreInsnsFrom, ends, goes_on, IsStart, JumpsWell, IsRow}
-use Rattle.class_write.proofs.Sizes.{table_of, ends_at, head_length, pairs_head_length}
-use Rattle.class_write.proofs.Kept.{kept_insn}
+use Rattle.class_pool.proofs.KeptSizes.{table_of, ends_at, head_length, pairs_head_length}
+use Rattle.class_pool.proofs.KeptInsns.{kept_insn}
 
 -- ---- the offsets of a switch are in its table
 

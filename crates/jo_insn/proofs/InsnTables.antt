@@ -1,4 +1,5 @@
--- What stands behind the operands of an instruction in the code that is kept makes it an instruction.
+-- What stands behind the operands of an instruction that was decoded, the two bytes of an invokeinterface aside, makes it that
+-- instruction.
 use Rattle.std.proofs.Common.{◌≡◌, ℕ, ◌+◌, ◌-◌, ◌≤◌, Bool, true, false, ◌&&◌, ◌==◌, if◌then◌else◌, List, [], ◌∷◌, ◌++◌, length, take, drop, Option, Some, option_map, Ok, refl, sym, ap, subst, ◌∙◌, arith}
 use Rattle.std.specs.Prelude.{ℤ}
 use Rattle.std.proofs.lemmas.Bool.{and_parts, eqb-true}
@@ -13,7 +14,7 @@ use Rattle.jo_insn.specs.Instructions.{decoded, IsInsn, CanName, s4}
 use Rattle.jo_insn.proofs.Numbers.{AreBytes}
 use Rattle.jo_insn.proofs.SpelledIsDecoded.{length_4}
 use Rattle.jo_insn.proofs.SpelledFromDecoded.{decoded_is_spelled}
-use Rattle.class_read.proofs.CodeSwitch.{all_bytes, offsets_end, pairs_end}
+use Rattle.jo_insn.proofs.SwitchTables.{all_bytes, offsets_end, pairs_end}
 
 -- ---- two bytes stand behind the index of an invokeinterface alone
 
@@ -41,11 +42,11 @@ alone_in (row ∷ rows) op all is =
       | false ↦ λ other later. alone_in rows op parts.1 later
     ] refl is
 
-call_alone : (op : ℕ) → operands_of op ≡ Some PoolShortAndTwo → op ≡ 185
+pub call_alone : (op : ℕ) → operands_of op ≡ Some PoolShortAndTwo → op ≡ 185
 unfolding row_of
 call_alone op is = alone_in opcodes op are_alone is
 
-at_call : operands_of 185 ≡ Some PoolShortAndTwo
+pub at_call : operands_of 185 ≡ Some PoolShortAndTwo
 unfolding row_of opcodes
 at_call = refl
 

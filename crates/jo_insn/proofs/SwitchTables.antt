@@ -12,7 +12,7 @@ use Rattle.jo_insn.specs.Instructions.{decoded, offsets_between, s4}
 use Rattle.jo_insn.proofs.Numbers.{AreBytes}
 use Rattle.jo_insn.proofs.SpelledIsDecoded.{length_4, length_5}
 use Rattle.jo_insn.proofs.SpelledFromDecoded.{decoded_is_spelled}
-use Rattle.class_read.specs.Starts.{AreOffsets}
+use Rattle.jo_insn.specs.Jumps.{AreOffsets}
 
 pub all_bytes : (xs : List ℕ) → AreBytes xs → AllByRecursion (λ byte. byte < 2 ^ 8) xs
 all_bytes [] bytes = tt

@@ -11,8 +11,8 @@ use Rattle.class_pool.specs.declared.classes.CodeInfo.{CodeInfo}
 use Rattle.class_pool.specs.declared.classes.RowInfo.{RowInfo}
 use Rattle.class_pool.specs.Writing.{FitsEntry, FitsPool, AreSpaced, is_second}
 use Rattle.class_pool.specs.ClassGrammar.{SpellsEach, SpellsEntry, SpellsEntries, no_entry, single, twofold, Attribute, HasConstant, no_constant, not_constant, constant_value, SpellsField, SpellsRow, SpellsCode, HasCodes, no_code, not_code, code_attribute, codes_in, SpellsMethod, SpellsClassIndex, IsClass}
-use Rattle.class_write.specs.Spelling.{HasText, FitsConstant, FitsField, FitsRow, FitsContent, FitsCode, FitsMethod, FitsClass}
-use Rattle.class_write.proofs.Sizes.{kept_length}
+use Rattle.class_pool.specs.Fitting.{HasText, FitsConstant, FitsField, FitsRow, FitsContent, FitsCode, FitsMethod, FitsClass}
+use Rattle.class_pool.proofs.KeptSizes.{kept_length}
 
 -- what follows from the spelling of each item
 pub each_so : {X : Type 0} (Spells : X → List ℕ → Type 0) (P : X → Type 0) → ((x : X) (bytes : List ℕ) → Spells x bytes → P x) → (xs : List X) (bytes : List ℕ) → SpellsEach Spells xs bytes → AllByRecursion P xs

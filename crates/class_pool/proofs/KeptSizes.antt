@@ -1,57 +1,27 @@
 -- An instruction is kept as long as it was, whatever numbers the code has.
-use Rattle.std.proofs.Common.{◌≡◌, ℕ, ◌+◌, ◌-◌, ◌*◌, ◌^◌, ◌≤◌, inl, inr, Bool, true, false, ◌&&◌, ◌==◌, if◌then◌else◌, List, [], ◌∷◌, ◌++◌, length, take, drop, replicate, Option, Some, None, option_map, Result, Ok, Err, refl, sym, ap, subst, ◌∙◌, arith, length-append}
+use Rattle.std.proofs.Common.{◌≡◌, ℕ, ◌+◌, ◌-◌, ◌*◌, ◌^◌, ◌≤◌, inl, inr, Bool, true, false, ◌==◌, if◌then◌else◌, List, [], ◌∷◌, ◌++◌, length, take, drop, replicate, Option, Some, None, Result, Ok, Err, refl, sym, ap, subst, ◌∙◌, arith, length-append}
 use Rattle.std.specs.Prelude.{ℤ, nat_lt, nat_le, int_lt}
 use Rattle.std.specs.Result.{IfOk}
-use Rattle.std.proofs.lemmas.Bool.{cases_Bool, and_parts, eqb-true}
+use Rattle.std.proofs.lemmas.Bool.{cases_Bool, eqb-true}
 use Rattle.std.proofs.lemmas.List.{length-drop, length-take-le, length-replicate}
 use Rattle.byteorder.specs.Endian.{big_bytes}
 use Rattle.jo_insn.specs.declared.opcodes.Operands.{Operands}
 use Rattle.jo_insn.specs.declared.opcodes.Operands.TheVariants.{NoOperand, SignedByte, SignedShort, LocalByte, LocalAndStep, WidePrefix, PoolByte, PoolShort, PoolShortAndTwo, ArrayKind, OffsetShort, OffsetInt, OffsetTable, KeyTable}
 use Rattle.jo_insn.specs.declared.instructions.Insn.{Insn}
 use Rattle.jo_insn.specs.declared.instructions.InsnFault.{InsnFault}
-use Rattle.jo_insn.specs.Opcodes.{Opcode, opcodes, first_row, row_of, operands_of}
+use Rattle.jo_insn.specs.Opcodes.{operands_of}
 use Rattle.jo_insn.specs.Instructions.{◌>>=◌, number_in, signed_in, decoded, decoded_from, with_operands, widened, behind_wide, array_of, is_array_kind, is_wide_kind, with_offsets, with_pairs, spelled, padding_at, offsets_at, offsets_between, pairs_at, keys_of, rises, s4}
 use Rattle.jo_insn.proofs.DecodedMoves.{decoded-moves}
+use Rattle.jo_insn.proofs.InsnTables.{call_alone, at_call}
 use Rattle.class_pool.specs.declared.entries.PoolEntry.{PoolEntry}
-use Rattle.class_pool.specs.Code.{Placed, canonical_table, canonical_code}
+use Rattle.jo_insn.specs.declared.jumps.Placed.{Placed}
+use Rattle.class_pool.specs.Code.{canonical_table, canonical_code}
 use Rattle.class_pool.specs.ClassGrammar.{AreInsnsFrom, ends, goes_on}
 
 abbrev pub table_of : List PoolEntry → List ℕ → ℕ → Insn → ℕ → List ℕ
 table_of pool code pc insn next = canonical_table pool code (record { pc = pc; insn = insn; next = next })
 
 -- ---- two bytes stand behind the index of an invokeinterface alone
-
-abbrev is_alone : Operands → ℕ → Bool
-is_alone PoolShortAndTwo op = op == 185
-is_alone _ op = true
-
-abbrev all_alone : List Opcode → Bool
-all_alone [] = true
-all_alone (row ∷ rows) = is_alone row.operands row.code && all_alone rows
-
-are_alone : all_alone opcodes ≡ true
-unfolding opcodes
-are_alone = refl
-
-alone_in : (rows : List Opcode) (op : ℕ) → all_alone rows ≡ true → option_map (λ (row : Opcode). row.operands) (first_row (λ row. row.code == op) rows) ≡ Some PoolShortAndTwo → op ≡ 185
-alone_in [] op all is = absurd (cc)
-alone_in (row ∷ rows) op all is =
-    let parts = and_parts (is_alone row.operands row.code) (all_alone rows) all in
-    elim (row.code == op) as (λ b. (row.code == op) ≡ b → option_map (λ (row : Opcode). row.operands) (if b then Some row else first_row (λ row. row.code == op) rows) ≡ Some PoolShortAndTwo → op ≡ 185) [
-      | true ↦ λ same this.
-          let here : row.operands ≡ PoolShortAndTwo = cc in
-          let code : row.code ≡ op = eqb-true row.code op same in
-          sym code ∙ eqb-true row.code 185 (ap (λ (o : Operands). is_alone o row.code) (sym here) ∙ parts.0)
-      | false ↦ λ other later. alone_in rows op parts.1 later
-    ] refl is
-
-call_alone : (op : ℕ) → operands_of op ≡ Some PoolShortAndTwo → op ≡ 185
-unfolding row_of
-call_alone op is = alone_in opcodes op are_alone is
-
-at_call : operands_of 185 ≡ Some PoolShortAndTwo
-unfolding row_of opcodes
-at_call = refl
 
 other_than_call : (op : ℕ) (operands : Operands) → operands_of op ≡ Some operands → (operands ≡ PoolShortAndTwo → ⊥) → (op == 185) ≡ false
 other_than_call op operands is differs = elim (cases_Bool (op == 185)) [

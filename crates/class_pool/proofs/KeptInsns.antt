@@ -6,8 +6,8 @@ use Rattle.jo_insn.specs.declared.instructions.Insn.TheVariants.{Plain, Local, I
 use Rattle.jo_insn.specs.Instructions.{decoded, IsInsn}
 use Rattle.jo_insn.proofs.Numbers.{AreBytes}
 use Rattle.class_pool.specs.declared.entries.PoolEntry.{PoolEntry}
-use Rattle.class_read.proofs.CodeKept.{call_kept, pooled_kept, offsets_kept, pairs_kept, others_kept}
-use Rattle.class_write.proofs.Sizes.{table_of}
+use Rattle.jo_insn.proofs.InsnTables.{call_kept, pooled_kept, offsets_kept, pairs_kept, others_kept}
+use Rattle.class_pool.proofs.KeptSizes.{table_of}
 
 module _ (pool : List PoolEntry) (code : List ℕ) (bytes : AreBytes code) where
   pub kept_insn : (pc next : ℕ) (insn : Insn) → decoded code pc ≡ Ok (insn, next) → IsInsn pc insn (table_of pool code pc insn next)

@@ -1,5 +1,0 @@
-use Rattle.class_write.proofs.Fits.{what_is_read_fits}
-use Rattle.class_write.proofs.laws.what_is_read_fits.Goals as goal
-
-pub returns : goal.returns
-returns c = what_is_read_fits
