@@ -5,7 +5,7 @@ use Rattle.jo_prog.specs.declared.program.Program.{Program}
 use Rattle.jo_prog.specs.Spelling.{spelled_method}
 use Rattle.dep_nodes.specs.declared.kinds.NodeKind.{NodeKind}
 use Rattle.dep_nodes.specs.declared.kinds.NodeKind.TheVariants.{Entry, Exit, Instr, Call, RetVal, RetKind, Throw, Catch, Poll, XPoll, Arg, Param, Kind, Value, Thrown}
-use Rattle.dependence.specs.Graph.{Node}
+use Rattle.dep_nodes.specs.Nodes.{Node}
 
 -- a word, a space, a number
 abbrev pub numbered : List ℕ → ℕ → List ℕ

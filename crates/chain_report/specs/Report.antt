@@ -5,20 +5,26 @@ use Rattle.jo_prog.specs.declared.program.Program.{Program}
 use Rattle.jo_prog.specs.declared.labels.Labels.{Labels}
 use Rattle.dep_nodes.specs.declared.kinds.EdgeKind.{EdgeKind}
 use Rattle.dep_nodes.specs.declared.kinds.EdgeKind.TheVariants.{Data, Control, Out, Arg, Call, Ret, Heap, Fork}
-use Rattle.dependence.specs.Graph.{Node}
-use Rattle.dependence.specs.Chains.{Link}
+use Rattle.dep_nodes.specs.declared.chains.Word.{Word}
+use Rattle.dep_nodes.specs.declared.chains.Word.TheVariants.{Edge, Pass}
+use Rattle.dep_nodes.specs.Nodes.{Node}
+use Rattle.dep_nodes.specs.Chains.{Link}
 use Rattle.chain_report.specs.Nodes.{spelled_node}
 use Rattle.jo_text.specs.Escapes.{escaped}
 
-abbrev pub spelled_word : EdgeKind → List ℕ
-spelled_word Data = codes "data"
-spelled_word Control = codes "control"
-spelled_word Out = codes "out"
-spelled_word Arg = codes "arg"
-spelled_word Call = codes "call"
-spelled_word Ret = codes "ret"
-spelled_word Heap = codes "heap"
-spelled_word Fork = codes "fork"
+abbrev pub spelled_edge : EdgeKind → List ℕ
+spelled_edge Data = codes "data"
+spelled_edge Control = codes "control"
+spelled_edge Out = codes "out"
+spelled_edge Arg = codes "arg"
+spelled_edge Call = codes "call"
+spelled_edge Ret = codes "ret"
+spelled_edge Heap = codes "heap"
+spelled_edge Fork = codes "fork"
+
+abbrev pub spelled_word : Word → List ℕ
+spelled_word (Edge kind) = spelled_edge kind
+spelled_word Pass = codes "pass"
 
 -- a line ends with a line feed
 abbrev pub line : List ℕ → List ℕ
@@ -35,7 +41,7 @@ level_name labels level = escaped (name_or_empty (slice_get labels.levels level)
 abbrev pub step_line : Program → Link → List ℕ
 step_line program link = line (spelled_word link.word ++ 32 ∷ spelled_node program link.to)
 
--- the report: the observer, where the chain begins, and a line for each edge
+-- the report: the observer, where the chain begins, and a line for each step
 abbrev pub chain_text : Program → Labels → ℕ → Node → List Link → List ℕ
 chain_text program labels observer from links =
     line (codes "joana report 1") ++ line (codes "refused chain") ++ line (codes "observer " ++ level_name labels observer)

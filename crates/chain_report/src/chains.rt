@@ -1,9 +1,9 @@
 //! Reports on illegal chains.
 ghost use Rattle.std.specs.Prelude.{◌≡◌, ◌++◌, Some, OnOk, IfOk, option_map};
 ghost use Rattle.std.specs.List.{flat_map};
-ghost use Rattle.dependence.specs.Graph.{Node};
-ghost use Rattle.dependence.specs.GraphData.{graph_node, link_of, links_of, node_named};
-ghost use Rattle.chain_report.specs.Report.{chain_text, level_name, spelled_word, step_line, step_text};
+ghost use Rattle.dep_nodes.specs.Nodes.{Node, node_named};
+ghost use Rattle.dep_nodes.specs.Graphs.{graph_node, link_of, links_of};
+ghost use Rattle.chain_report.specs.Report.{chain_text, level_name, spelled_edge, spelled_word, step_line, step_text};
 ghost use Rattle.chain_report.specs.Nodes.{spelled_node};
 
 use crate::nodes::push_node;
@@ -14,8 +14,8 @@ use jo_prog::program::Program;
 use jo_text::push_escaped;
 use std::alloc::{AllocError as Memory, Global};
 
-fn push_word(out: &mut Vec<u8>, kind: EdgeKind) -> Result<(), Memory>
-    ensures { OnOk result (out.new.items ≡ out.old.items ++ spelled_word kind) }
+fn push_edge(out: &mut Vec<u8>, kind: EdgeKind) -> Result<(), Memory>
+    ensures { OnOk result (out.new.items ≡ out.old.items ++ spelled_edge kind) }
 {
     let word: &[u8] = match kind {
         EdgeKind::Data => b"data",
@@ -28,6 +28,15 @@ fn push_word(out: &mut Vec<u8>, kind: EdgeKind) -> Result<(), Memory>
         EdgeKind::Fork => b"fork",
     };
     out.extend_from_slice(word)
+}
+
+fn push_word(out: &mut Vec<u8>, word: Word) -> Result<(), Memory>
+    ensures { OnOk result (out.new.items ≡ out.old.items ++ spelled_word word) }
+{
+    match word {
+        Word::Edge(kind) => push_edge(out, kind),
+        Word::Pass => out.extend_from_slice(b"pass"),
+    }
 }
 
 fn push_level(out: &mut Vec<u8>, labels: &Labels, level: LevelId) -> Result<(), Memory>
@@ -46,7 +55,7 @@ fn node_name(graph: &Graph, node: NodeId) -> Option<&NodeName>
     graph.nodes.as_slice().get(node.number() as usize)
 }
 
-/// Adds the line of a step, where it is an edge to a node of the graph.
+/// Adds the line of a step, where it is one to a node of the graph.
 fn push_step(
     alloc: Global,
     out: &mut Vec<u8>,
@@ -56,13 +65,9 @@ fn push_step(
 ) -> Result<(), Memory>
     ensures { OnOk result (out.new.items ≡ out.old.items ++ step_text program.now (link_of graph.now step.now)) }
 {
-    let kind = match step.word {
-        Word::Edge(kind) => kind,
-        Word::Pass => return Ok(()),
-    };
     match node_name(graph, step.to) {
         Some(name) => {
-            push_word(out, kind)?;
+            push_word(out, step.word)?;
             out.push(b' ')?;
             push_node(alloc, out, program, name)?;
             out.push(b'\n')?;

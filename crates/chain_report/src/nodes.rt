@@ -1,7 +1,7 @@
 //! How texts spell the nodes of a graph.
 ghost use Rattle.std.specs.Prelude.{◌≡◌, ◌++◌, ◌∷◌, OnOk};
 ghost use Rattle.std.specs.Fmt.{decimal};
-ghost use Rattle.dependence.specs.GraphData.{node_named};
+ghost use Rattle.dep_nodes.specs.Nodes.{node_named};
 ghost use Rattle.chain_report.specs.Nodes.{numbered, spelled_kind, spelled_node};
 
 use dep_nodes::{NodeKind, NodeName};

@@ -13,20 +13,10 @@ use Rattle.dep_nodes.specs.declared.kinds.NodeKind.{NodeKind}
 use Rattle.dep_nodes.specs.declared.kinds.NodeKind.TheVariants.{Instr, Call, RetVal, Arg, Kind, Thrown}
 use Rattle.dep_nodes.specs.declared.kinds.EdgeKind.{EdgeKind}
 use Rattle.dep_nodes.specs.declared.kinds.EdgeKind.TheVariants.{Data, Control, Out, Heap}
+use Rattle.dep_nodes.specs.Nodes.{Instance, Node, node}
 use Rattle.dependence.specs.Flow.{IsFlowNode, Reads, ArgumentPlace, FlowReaches, FlowControls}
 
 -- a method in a context, which is a list of sites
-pub record Instance : Type 0 where
-  pub method : ℕ
-  pub context : List ℕ
-
-pub record Node : Type 0 where
-  pub inst : Instance
-  pub kind : NodeKind
-
-abbrev pub node : Instance → NodeKind → Node
-node i kind = record { inst = i; kind = kind }
-
 -- the instances that derivations reach: the entry in the root context
 pub data IsReached (labels : Labels) : Instance → Type 0 where
   at_entry : IsReached labels (record { method = labels.entry; context = [] })

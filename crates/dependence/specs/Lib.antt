@@ -2,5 +2,4 @@ pub mod Paths
 pub mod Dependence
 pub mod Flow
 pub mod Graph
-pub mod Chains
 pub mod GraphData

@@ -8,7 +8,7 @@ use Rattle.dep_nodes.specs.declared.graphs.Edge.{Edge}
 use Rattle.flow_graph.specs.declared.sdg.Definitions.{Definitions}
 use Rattle.flow_graph.specs.declared.sdg.SourceResult.{SourceResult}
 use Rattle.dependence.specs.Flow.{writes_of}
-use Rattle.dependence.specs.GraphData.{edge}
+use Rattle.dep_nodes.specs.Graphs.{edge}
 use Rattle.flow_graph.specs.Building.{HasPlace, heap_edges}
 
 -- the one place that an operation writes stands in the tables

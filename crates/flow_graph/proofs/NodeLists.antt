@@ -8,8 +8,10 @@ use Rattle.dep_nodes.specs.declared.kinds.NodeKind.TheVariants.{Entry, Exit, Ins
 use Rattle.dep_nodes.specs.declared.kinds.EdgeKind.{EdgeKind}
 use Rattle.dep_nodes.specs.declared.graphs.NodeName.{NodeName}
 use Rattle.dep_nodes.specs.declared.graphs.Edge.{Edge}
-use Rattle.dependence.specs.Graph.{Node, IsNode, DependenceEdge}
-use Rattle.dependence.specs.GraphData.{node_named, resolved_of, edge}
+use Rattle.dep_nodes.specs.Nodes.{Node, node_named}
+use Rattle.dep_nodes.specs.Graphs.{edge}
+use Rattle.dependence.specs.Graph.{IsNode, DependenceEdge}
+use Rattle.dependence.specs.GraphData.{resolved_of}
 
 -- ---- lists
 

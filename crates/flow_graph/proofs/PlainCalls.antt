@@ -24,11 +24,11 @@ use Rattle.dep_nodes.specs.declared.graphs.Edge.{Edge}
 use Rattle.flow_graph.specs.declared.sdg.Definitions.{Definitions}
 use Rattle.flow_graph.specs.declared.sdg.SourceResult.{SourceResult}
 use Rattle.dependence.specs.Flow.{node_at, calls_native, calls, IsFlowNode, Reads, Writes, by_instr, by_result, ArgumentPlace, of_argument, arguments_at, results_at, FlowReaches}
-use Rattle.dependence.specs.Graph.{Node, node, at_entry, of_flow, of_argument as argument_node, label_at, is_source, is_sink, UsesCursor, at_result, passed, shown, next_input}
-use Rattle.dependence.specs.Chains.{pc_of}
-use Rattle.dependence.specs.GraphData.{edge}
+use Rattle.dep_nodes.specs.Nodes.{Node, node}
+use Rattle.dep_nodes.specs.Graphs.{edge}
+use Rattle.dependence.specs.Graph.{at_entry, of_flow, of_argument as argument_node, label_at, is_source, is_sink, UsesCursor, at_result, passed, shown, next_input}
 use Rattle.flow_graph.specs.Building.{definition_of, name_of, use_edges, control_edges, heap_edges}
-use Rattle.flow_graph.proofs.PlainLine.{flow_line, flow_on}
+use Rattle.flow_graph.proofs.PlainLine.{pc_or_zero, flow_line, flow_on}
 use Rattle.flow_graph.proofs.PlainReaching.{position, root}
 use Rattle.flow_graph.proofs.NodeLists.{contains_one, contains_none, contains_first, node_in, NodesStay, stay-push, node-push, nodes-push, nodes-weaker, HasEdge, IsEdgeOf, edge_of-more}
 use Rattle.flow_graph.proofs.PlainSteps.{IsBuilt, IsDefined, CoversEdges, cursor_callee, each_edge-more, each_node-more, kind_at_call, instr_reads, flow_kind, control_right, contains_cons, use_right, use_there}
@@ -55,7 +55,7 @@ argument_at program m p a h n v (of_argument q height count i w high counts belo
 result_by : (program : Program) (m pc h n r : ℕ) (k : NodeKind) (v : Place) → Writes program m k v → k ≡ RetVal pc → HasHeight program m pc h → arguments_at program m pc ≡ Some n → results_at program m pc ≡ Some r → (r ≡ 1) × (v ≡ Stack (h - n))
 result_by program m pc h n r k v (by_instr p next height operation w found high among) is has counts gives = (let no : ⊥ = cc in absurd no)
 result_by program m pc h n r k v (by_result p height count w high counted given place) is has counts gives =
-    let same : p ≡ pc = ap pc_of is in
+    let same : p ≡ pc = ap pc_or_zero is in
     let level : height ≡ h = heights_same program m pc height h (subst (λ q. HasHeight program m q height) same high) has in
     let number : count ≡ n = same_Some count n (sym counted ∙ ap (arguments_at program m) same ∙ counts) in
     (same_Some r 1 (sym gives ∙ ap (results_at program m) (sym same) ∙ given), place ∙ ap (λ x. Stack (x - count)) level ∙ ap (λ x. Stack (h - x)) number)

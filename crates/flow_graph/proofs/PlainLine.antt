@@ -17,11 +17,17 @@ use Rattle.dep_nodes.specs.declared.kinds.NodeKind.TheVariants.{Entry, Exit, Ins
 use Rattle.dependence.specs.Paths.{stays, steps}
 use Rattle.dependence.specs.Flow.{node_of, node_at, falls_through, FlowEdge, begins, skips, falls, leaves, calls, arrives, IsFlowNode, FlowPath, FlowReaches}
 use Rattle.dependence.specs.Dependence.{one, more}
-use Rattle.dependence.specs.Chains.{pc_of}
 
 -- ---- the node at a pc
 
-node_pc : (pc : ℕ) (o : Option (Operation × ℕ)) → pc_of (node_of pc o) ≡ pc
+-- the pc of an instruction's or a call's node
+abbrev pub pc_or_zero : NodeKind → ℕ
+pc_or_zero (Instr pc) = pc
+pc_or_zero (Call pc) = pc
+pc_or_zero (RetVal pc) = pc
+pc_or_zero _ = 0
+
+node_pc : (pc : ℕ) (o : Option (Operation × ℕ)) → pc_or_zero (node_of pc o) ≡ pc
 node_pc pc None = refl
 node_pc pc (Some (Constant z, next)) = refl
 node_pc pc (Some (Load k, next)) = refl
@@ -49,14 +55,14 @@ node_is_step pc (Some (InvokeStatic k, next)) = refl
 node_is_step pc (Some (Return, next)) = refl
 node_is_step pc (Some (Other, next)) = refl
 
-pub node_at_pc : (program : Program) (m pc : ℕ) (n : NodeKind) → node_at program m pc ≡ n → pc_of n ≡ pc
-node_at_pc program m pc n e = subst (λ k. pc_of k ≡ pc) e (node_pc pc (operation_at program m pc))
+pub node_at_pc : (program : Program) (m pc : ℕ) (n : NodeKind) → node_at program m pc ≡ n → pc_or_zero n ≡ pc
+node_at_pc program m pc n e = subst (λ k. pc_or_zero k ≡ pc) e (node_pc pc (operation_at program m pc))
 
 pub node_at_step : (program : Program) (m pc : ℕ) (n : NodeKind) → node_at program m pc ≡ n → is_step n ≡ true
 node_at_step program m pc n e = subst (λ k. is_step k ≡ true) e (node_is_step pc (operation_at program m pc))
 
 pub node_at_one : (program : Program) (m a b : ℕ) → node_at program m a ≡ node_at program m b → a ≡ b
-node_at_one program m a b e = sym (node_pc a (operation_at program m a)) ∙ ap pc_of e ∙ node_pc b (operation_at program m b)
+node_at_one program m a b e = sym (node_pc a (operation_at program m a)) ∙ ap pc_or_zero e ∙ node_pc b (operation_at program m b)
 
 -- where control leaves what stands at a node: from a call by its result
 abbrev pub out_of : NodeKind → NodeKind

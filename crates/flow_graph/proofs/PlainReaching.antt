@@ -16,9 +16,9 @@ use Rattle.dep_nodes.specs.declared.kinds.EdgeKind.{EdgeKind}
 use Rattle.dependence.specs.Paths.{stays, steps}
 use Rattle.dependence.specs.Flow.{node_of, node_at, falls_through, FlowEdge, begins, skips, falls, leaves, calls, arrives, IsFlowNode, Writes, ArgumentPlace, FlowPath, FlowReaches, FlowControls}
 use Rattle.dependence.specs.Dependence.{one, more}
-use Rattle.dependence.specs.Graph.{Instance, Node, node, at_entry, IsNode, of_flow, of_argument, of_kind, of_thrown, UsesCursor, at_result, DependenceEdge, used, passed, shown, controlled, ended, next_input}
-use Rattle.dependence.specs.Chains.{pc_of}
-use Rattle.flow_graph.proofs.PlainLine.{node_at_step, out_of, LineAt, flow_line, flow_on, reaches_flow, IsBehind, predecessor}
+use Rattle.dep_nodes.specs.Nodes.{Instance, Node, node}
+use Rattle.dependence.specs.Graph.{at_entry, IsNode, of_flow, of_argument, of_kind, of_thrown, UsesCursor, at_result, DependenceEdge, used, passed, shown, controlled, ended, next_input}
+use Rattle.flow_graph.proofs.PlainLine.{pc_or_zero, node_at_step, out_of, LineAt, flow_line, flow_on, reaches_flow, IsBehind, predecessor}
 
 -- ---- places on the line
 
@@ -75,7 +75,7 @@ into_return program m p x n (begins y e) is = absurd (false≢true (node_at_step
 into_return program m p x n skips is = cc
 into_return program m p x n (falls q next operation y found through e) is = absurd (false≢true (node_at_step program m next (RetVal p) (e ∙ is)))
 into_return program m p x n (leaves q next found) is = cc
-into_return program m p x n (calls q next k found native) is = ap (λ k. Call (pc_of k)) is
+into_return program m p x n (calls q next k found native) is = ap (λ k. Call (pc_or_zero k)) is
 into_return program m p x n (arrives q next k y found native e) is = absurd (false≢true (node_at_step program m next (RetVal p) (e ∙ is)))
 
 reaches_return : (program : Program) (m p : ℕ) (v : Place) (d n : NodeKind) → FlowReaches program m v d n → n ≡ RetVal p → FlowReaches program m v d (Call p)

@@ -26,11 +26,11 @@ use Rattle.flow_graph.specs.declared.sdg.SourceResult.{SourceResult}
 use Rattle.dependence.specs.Paths.{stays}
 use Rattle.dependence.specs.Flow.{node_at, FlowEdge, IsFlowNode, reads_of, writes_of, Reads, Writes, by_instr, by_result, ArgumentPlace, FlowReaches, FlowControls}
 use Rattle.dependence.specs.Dependence.{one}
-use Rattle.dependence.specs.Chains.{pc_of}
-use Rattle.dependence.specs.Graph.{Node, node, at_entry, IsNode, of_flow, label_at, is_source, is_sink, UsesCursor, at_result, DependenceEdge, used, passed, shown, controlled, ended, next_input}
-use Rattle.dependence.specs.GraphData.{edge}
+use Rattle.dep_nodes.specs.Nodes.{Node, node}
+use Rattle.dep_nodes.specs.Graphs.{edge}
+use Rattle.dependence.specs.Graph.{at_entry, IsNode, of_flow, label_at, is_source, is_sink, UsesCursor, at_result, DependenceEdge, used, passed, shown, controlled, ended, next_input}
 use Rattle.flow_graph.specs.Building.{definition_of, AreWritten, name_of, use_edges, uses_edges, out_edges, control_edges}
-use Rattle.flow_graph.proofs.PlainLine.{out_of, IsBehind, flow_line, reaches_flow}
+use Rattle.flow_graph.proofs.PlainLine.{pc_or_zero, out_of, IsBehind, flow_line, reaches_flow}
 use Rattle.flow_graph.proofs.PlainReaching.{position, reaches_up, reaches_next, controls_entry, entry_controls, controlled_flow, root, IsKindOf, node_kind}
 use Rattle.flow_graph.proofs.NodeLists.{contains_one, contains_none, contains_first, node_in, NodesStay, stay-push, node-push, AreNodes, nodes-push, nodes-weaker, HasEdge, IsEdgeOf, has_edge-more, edge_of-more}
 
@@ -306,7 +306,7 @@ control_right program labels nodes j k flow no_entry no_exit first at e is =
 pub cursor_flow : (program : Program) (labels : Labels) (source : ℕ) (x : Node) → UsesCursor program labels source x → IsFlowNode program labels.entry x.kind
 cursor_flow program labels source x (at_result i p s at_entry flow callee is) = flow
 
-pub cursor_callee : (program : Program) (labels : Labels) (source : ℕ) (x : Node) → UsesCursor program labels source x → (callee_at program labels.entry (pc_of x.kind) ≡ Some source) × (is_source (label_of labels source) ≡ true)
+pub cursor_callee : (program : Program) (labels : Labels) (source : ℕ) (x : Node) → UsesCursor program labels source x → (callee_at program labels.entry (pc_or_zero x.kind) ≡ Some source) × (is_source (label_of labels source) ≡ true)
 cursor_callee program labels source x (at_result i p s at_entry flow callee is) = (callee, is)
 
 pub flow_kind : (program : Program) (labels : Labels) (code : Code) (typed : IsTypedCode program labels.entry code) (k : NodeKind) → IsFlowNode program labels.entry k → IsKindOf program labels.entry k
@@ -329,14 +329,14 @@ out_right program labels pc next j Other found nodes flow at third e is = absurd
 module _ (program : Program) (labels : Labels) (pc next : ℕ) (operation : Operation) (found : operation_at program labels.entry pc ≡ Some (operation, next)) (h : ℕ) (has : HasHeight program labels.entry pc h) where
   reads_by : (k : NodeKind) (v : Place) → Reads program labels.entry k v → k ≡ Instr pc → Contains (reads_of operation h) v
   reads_by k v (by_instr p to height o w at high among) is =
-      let same : p ≡ pc = ap pc_of is in
+      let same : p ≡ pc = ap pc_or_zero is in
       let o_same = (some_pair_parts o operation to next (sym at ∙ ap (operation_at program labels.entry) same ∙ found)).0 in
       let h_same = heights_same program labels.entry pc height h (subst (λ q. HasHeight program labels.entry q height) same high) has in
       subst (λ x. Contains (reads_of operation x) w) h_same (subst (λ x. Contains (reads_of x height) w) o_same among)
 
   writes_by : (k : NodeKind) (v : Place) → Writes program labels.entry k v → k ≡ Instr pc → Contains (writes_of operation h) v
   writes_by k v (by_instr p to height o w at high among) is =
-      let same : p ≡ pc = ap pc_of is in
+      let same : p ≡ pc = ap pc_or_zero is in
       let o_same = (some_pair_parts o operation to next (sym at ∙ ap (operation_at program labels.entry) same ∙ found)).0 in
       let h_same = heights_same program labels.entry pc height h (subst (λ q. HasHeight program labels.entry q height) same high) has in
       subst (λ x. Contains (writes_of operation x) w) h_same (subst (λ x. Contains (writes_of x height) w) o_same among)

@@ -28,7 +28,8 @@ use Rattle.flow_graph.specs.declared.sdg.Builder.{Builder}
 use Rattle.dependence.specs.Paths.{stays, steps}
 use Rattle.dependence.specs.Flow.{node_of, node_at, falls_through, FlowEdge, begins, skips, falls, leaves, calls, arrives, IsFlowNode, writes_of, Reads, Writes, by_instr, by_result, FlowPath, FlowReaches}
 use Rattle.dependence.specs.Dependence.{one, more}
-use Rattle.dependence.specs.Graph.{Node, node, at_entry, IsNode, of_flow, of_kind, of_thrown, is_source, is_sink, UsesCursor, at_result, DependenceEdge, used, passed, shown, controlled, ended, next_input}
+use Rattle.dep_nodes.specs.Nodes.{Node, node}
+use Rattle.dependence.specs.Graph.{at_entry, IsNode, of_flow, of_kind, of_thrown, is_source, is_sink, UsesCursor, at_result, DependenceEdge, used, passed, shown, controlled, ended, next_input}
 use Rattle.dependence.specs.GraphData.{IsDependenceGraph}
 use Rattle.flow_graph.specs.Building.{definition_of, HasPlace, name_of, start_nodes, IsStart, is_call, is_return, height_after, AddsInstruction, AddsSource, AddsSink}
 use Rattle.flow_graph.proofs.PlainLine.{node_at_one, node_at_step, out_of, flow_line, flow_on, IsBehind, between, behind_next}

@@ -11,7 +11,7 @@ use Rattle.dep_nodes.specs.declared.chains.Word.TheVariants.{Edge as AnEdge}
 use Rattle.dep_nodes.specs.declared.graphs.Graph.{Graph}
 use Rattle.flow_graph.specs.declared.slicer.Mark.{Mark}
 use Rattle.flow_graph.specs.declared.slicer.Mark.TheVariants.{Unmarked, Criterion, Next}
-use Rattle.dependence.specs.GraphData.{edge, IsWalk, WalksTo, walk_end}
+use Rattle.dep_nodes.specs.Graphs.{edge, IsWalk, WalksTo, walk_end}
 use Rattle.flow_graph.specs.Slices.{mark_at, is_marked, IsMarkedAt, distance_of, LeadsOn, IsStepFrom, is_unmarked, unmarked_count, IsMarking, OnlyGrows, IsClosedAt, AreMarkedAs, HasNoStep}
 
 -- ---- one more mark

@@ -16,7 +16,7 @@ use Rattle.flow_graph.specs.declared.sdg.SourceResult.{SourceResult}
 use Rattle.flow_graph.specs.declared.sdg.Builder.{Builder}
 use Rattle.dependence.specs.Flow.{reads_of, writes_of}
 use Rattle.dep_nodes.specs.declared.kinds.NodeKind.TheVariants.{Entry, Exit, Instr, Call, RetVal, Arg, Kind, Thrown}
-use Rattle.dependence.specs.GraphData.{edge}
+use Rattle.dep_nodes.specs.Graphs.{edge}
 
 -- the number of the node that wrote a place last
 abbrev pub definition_of : Definitions → Place → Option ℕ

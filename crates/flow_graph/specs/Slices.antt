@@ -8,7 +8,7 @@ use Rattle.dep_nodes.specs.declared.graphs.Graph.{Graph}
 use Rattle.flow_graph.specs.declared.slicer.Mark.{Mark}
 use Rattle.flow_graph.specs.declared.slicer.Mark.TheVariants.{Unmarked, Criterion, Next}
 use Rattle.flow_graph.specs.declared.slicer.Slicer.{Slicer}
-use Rattle.dependence.specs.GraphData.{edge, WalksTo}
+use Rattle.dep_nodes.specs.Graphs.{EdgeAt, WalksTo}
 
 -- the mark of a node; a number that is none of a node has none
 abbrev pub mark_at : List Mark → ℕ → Mark
@@ -29,7 +29,7 @@ distance_of _ = 0
 
 -- the step goes along an edge of the graph
 abbrev pub IsStepFrom : Graph → ℕ → Step → Type 0
-IsStepFrom graph from step = (kind : EdgeKind) × (step.word ≡ AnEdge kind) × Contains graph.edges (edge from kind step.to)
+IsStepFrom graph from step = (kind : EdgeKind) × (step.word ≡ AnEdge kind) × EdgeAt graph from kind step.to
 
 -- the mark of a node leads on
 abbrev pub LeadsOn : Graph → List Mark → ℕ → Mark → Type 0
@@ -60,7 +60,7 @@ IsClosedAt marks e = IsMarkedAt marks e.to → IsMarkedAt marks e.from
 
 -- the edges are between nodes of the graph
 abbrev pub HasEdgesInside : Graph → Type 0
-HasEdgesInside graph = (e : Edge) → Contains graph.edges e → (e.from < length graph.nodes) × (e.to < length graph.nodes)
+HasEdgesInside graph = (i j : ℕ) (kind : EdgeKind) → EdgeAt graph i kind j → (i < length graph.nodes) × (j < length graph.nodes)
 
 abbrev pub AreInside : Graph → List ℕ → Type 0
 AreInside graph numbers = (n : ℕ) → Contains numbers n → n < length graph.nodes

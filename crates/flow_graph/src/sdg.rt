@@ -5,9 +5,10 @@ ghost use Rattle.dependence.specs.declared.flow.Place.{Place as APlace};
 ghost use Rattle.jo_prog.specs.declared.program.Code.{Code};
 ghost use Rattle.jo_prog.specs.Program.{code_at};
 ghost use Rattle.jo_prog.specs.Labels.{label_of};
+ghost use Rattle.dep_nodes.specs.Graphs.{edge};
 ghost use Rattle.dependence.specs.Graph.{is_source, is_sink};
 ghost use Rattle.jo_prog.specs.PlainCode.{IsPlainProgram};
-ghost use Rattle.dependence.specs.GraphData.{edge, IsDependenceGraph};
+ghost use Rattle.dependence.specs.GraphData.{IsDependenceGraph};
 ghost use Rattle.flow_graph.specs.Building.{definition_of, HasPlace, SameSizes, AreWritten, name_of, use_edges, uses_edges, out_edges, control_edges, heap_edges, AddsInstruction, AddsSource, AddsSink, height_after, is_call, is_return, IsStart, HasShortCode};
 
 use dep_nodes::{Edge, EdgeKind, Graph, NodeKind, NodeName, SiteList};

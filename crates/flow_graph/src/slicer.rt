@@ -2,7 +2,7 @@
 ghost use Rattle.std.specs.Prelude.{◌≡◌, ◌↔◌, ◌+◌, ◌++◌, ◌∷◌, [], OnOk, ◌<◌, ◌^◌, ℕ, List as Items, length, replicate, Contains, IsTrue, IfOk, IfSome, IfNone, true, false, slice_get, slice_index};
 ghost use Rattle.std.specs.Bool.{OnFalse, OnTrue};
 ghost use Rattle.dep_nodes.specs.declared.graphs.Edge.{Edge as AnEdge};
-ghost use Rattle.dependence.specs.GraphData.{IsWalk, WalksTo, walk_end};
+ghost use Rattle.dep_nodes.specs.Graphs.{IsWalk, WalksTo, walk_end};
 ghost use Rattle.flow_graph.specs.Slices.{mark_at, is_marked, IsMarkedAt, distance_of, unmarked_count, IsMarking, OnlyGrows, IsClosedAt, HasEdgesInside, AreInside, HasNoStep, AreMarkedAs, FitsGraph, IsMarked, IsSliceOf, IsFirstWith};
 
 use dep_nodes::{Chain, Edge, Graph, Step, Word};

@@ -28,12 +28,12 @@ use Rattle.dep_nodes.specs.declared.kinds.NodeKind.{NodeKind}
 use Rattle.dep_nodes.specs.declared.kinds.NodeKind.TheVariants.{Entry, Call, RetVal}
 use Rattle.dependence.specs.Paths.{stays, steps}
 use Rattle.dependence.specs.Flow.{node_at, begins, IsFlowNode}
-use Rattle.dependence.specs.Graph.{node, at_entry, label_at}
+use Rattle.dep_nodes.specs.Nodes.{node}
+use Rattle.dependence.specs.Graph.{at_entry, label_at}
 use Rattle.flow_graph.proofs.PlainReaching.{root}
 use Rattle.flow_graph.proofs.PlainSteps.{cursor_callee, cursor_flow}
-use Rattle.low_run.specs.Verdict.{CleanForAll}
 use Rattle.low_run.specs.Security.{Agree, AgreeOnInputs, TracesAgree, Secure, source_level}
-use Rattle.low_run.specs.Verdict.{result, call, Clean}
+use Rattle.low_run.specs.ByEdges.{result, call, CleanByEdges, AllCleanByEdges}
 use Rattle.low_run.proofs.AlikeRuns.{Together, over, stand, EventsAlike, silence, at_sink, AgreeOnRelevant, source_label, label_of_callee, both_step}
 use Rattle.low_run.proofs.AlikeValues.{empty, frame_at}
 use Rattle.low_run.proofs.Relevance.{IsClosed, IsRelevant, at_end, hidden_irrelevant, reaches_else, relevant_by_data}
@@ -162,7 +162,7 @@ start_together program labels Relevant plain =
 -- ---- the law
 
 -- what is relevant isn't hidden, so inputs that agree for the observer are equal at its sources
-agree_on_relevant : (program : Program) (labels : Labels) (observer : ℕ) → Clean program labels observer → (inputs others : List SourceInput) → AgreeOnInputs labels observer inputs others
+agree_on_relevant : (program : Program) (labels : Labels) (observer : ℕ) → CleanByEdges program labels observer → (inputs others : List SourceInput) → AgreeOnInputs labels observer inputs others
     → AgreeOnRelevant program labels (λ n. IsRelevant program labels observer (node (root labels) n)) inputs others
 agree_on_relevant program labels observer clean inputs others agree source pc uses relevant place =
     let callee = (cursor_callee program labels source (node (root labels) (RetVal pc)) uses).0 in
@@ -173,7 +173,7 @@ agree_on_relevant program labels observer clean inputs others agree source pc us
     (result (root labels) pc at_entry flow (ap (λ l. misses labels observer (brings l)) at ∙ missed)) relevant) in
     agree source (ap (λ l. reaches labels observer (source_level l)) level.1 ∙ reached) place
 
-pub clean_secure : (program : Program) (labels : Labels) → IsPlainProgram program labels → CleanForAll program labels → Secure program labels
+pub clean_secure : (program : Program) (labels : Labels) → IsPlainProgram program labels → AllCleanByEdges program labels → Secure program labels
 clean_secure program labels plain clean observer among inputs others agree schedule other_schedule =
     let Relevant : NodeKind → Type 0 = λ n. IsRelevant program labels observer (node (root labels) n) in
     together_agree program labels plain.code plain.found plain.typed plain.well_labelled.natives Relevant (relevant_by_data program labels observer) inputs others

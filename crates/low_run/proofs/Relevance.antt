@@ -12,10 +12,12 @@ use Rattle.dep_nodes.specs.declared.kinds.EdgeKind.{EdgeKind}
 use Rattle.dep_nodes.specs.declared.kinds.EdgeKind.TheVariants.{Data, Control, Out, Arg as ArgEdge, Call as CallEdge, Ret, Heap, Fork}
 use Rattle.dependence.specs.Flow.{FlowEdge, IsFlowNode, Reads, Writes, ArgumentPlace, FlowReaches}
 use Rattle.dependence.specs.Dependence.{one, more}
-use Rattle.dependence.specs.Graph.{Node, node, at_entry, DependenceEdge, used, passed as passed_edge}
-use Rattle.dependence.specs.Chains.{CallSite, Link, open_after, IsChainFrom, end_of}
+use Rattle.dep_nodes.specs.declared.chains.Word.TheVariants.{Edge as AnEdge}
+use Rattle.dep_nodes.specs.Nodes.{Node, node, CallSite}
+use Rattle.dep_nodes.specs.Chains.{Link, adv, IsChainFrom, end_of}
+use Rattle.dependence.specs.Graph.{at_entry, DependenceEdge, used, passed as passed_edge}
 use Rattle.flow_graph.proofs.PlainReaching.{root}
-use Rattle.low_run.specs.Verdict.{IsHidden, IsObserved, Clean}
+use Rattle.low_run.specs.ByEdges.{HiddenByEdges, ObservedByEdges, CleanByEdges}
 
 -- ---- nodes
 
@@ -33,11 +35,11 @@ goes_far _ = false
 
 -- What the observer may see is relevant, and with a node all that leads to it. No edge of plain code opens or closes a call.
 pub data IsRelevant (program : Program) (labels : Labels) (observer : ℕ) : Node → Type 0 where
-  at_end : (n : Node) → IsObserved program labels observer n → IsRelevant program labels observer n
+  at_end : (n : Node) → ObservedByEdges program labels observer n → IsRelevant program labels observer n
   within : (a b : Node) (word : EdgeKind) → stays_within word ≡ true → DependenceEdge program labels a word b → IsRelevant program labels observer b → IsRelevant program labels observer a
   far : (a b : Node) (word : EdgeKind) → goes_far word ≡ true → DependenceEdge program labels a word b → IsRelevant program labels observer b → IsRelevant program labels observer a
 
-opens_within : (calls : List CallSite) (a b : Node) (word : EdgeKind) → stays_within word ≡ true → open_after calls a word b ≡ Some calls
+opens_within : (calls : List CallSite) (a b : Node) (word : EdgeKind) → stays_within word ≡ true → adv calls a word b ≡ Some calls
 opens_within calls a b Data is = refl
 opens_within calls a b Control is = refl
 opens_within calls a b Out is = refl
@@ -47,7 +49,7 @@ opens_within calls a b Ret is = absurd (false≢true is)
 opens_within calls a b Heap is = absurd (false≢true is)
 opens_within calls a b Fork is = absurd (false≢true is)
 
-opens_far : (calls : List CallSite) (a b : Node) (word : EdgeKind) → goes_far word ≡ true → open_after calls a word b ≡ Some []
+opens_far : (calls : List CallSite) (a b : Node) (word : EdgeKind) → goes_far word ≡ true → adv calls a word b ≡ Some []
 opens_far calls a b Heap is = refl
 opens_far calls a b Fork is = refl
 opens_far calls a b Data is = absurd (false≢true is)
@@ -59,17 +61,17 @@ opens_far calls a b Ret is = absurd (false≢true is)
 
 -- from a relevant node a chain leads to what the observer may see, whatever calls are open
 relevant_chain : (program : Program) (labels : Labels) (observer : ℕ) (n : Node) → IsRelevant program labels observer n → (calls : List CallSite)
-    → (links : List Link) × IsChainFrom program labels calls n links × IsObserved program labels observer (end_of n links)
+    → (links : List Link) × IsChainFrom (DependenceEdge program labels) calls n links × ObservedByEdges program labels observer (end_of n links)
 relevant_chain program labels observer n (at_end k seen) calls = ([], tt, seen)
 relevant_chain program labels observer n (within a b word is edge rest) calls =
     let r = relevant_chain program labels observer b rest calls in
-    ((record { word = word; to = b }) ∷ r.0, (edge, (calls, opens_within calls a b word is, r.1)), r.2)
+    ((record { word = AnEdge word; to = b }) ∷ r.0, (calls, (edge, opens_within calls a b word is), r.1), r.2)
 relevant_chain program labels observer n (far a b word is edge rest) calls =
     let r = relevant_chain program labels observer b rest [] in
-    ((record { word = word; to = b }) ∷ r.0, (edge, ([], opens_far calls a b word is, r.1)), r.2)
+    ((record { word = AnEdge word; to = b }) ∷ r.0, ([], (edge, opens_far calls a b word is), r.1), r.2)
 
 -- for a clean program no hidden node is relevant
-pub hidden_irrelevant : (program : Program) (labels : Labels) (observer : ℕ) (n : Node) → Clean program labels observer → IsHidden program labels observer n → IsRelevant program labels observer n → ⊥
+pub hidden_irrelevant : (program : Program) (labels : Labels) (observer : ℕ) (n : Node) → CleanByEdges program labels observer → HiddenByEdges program labels observer n → IsRelevant program labels observer n → ⊥
 hidden_irrelevant program labels observer n clean hidden relevant =
     let r = relevant_chain program labels observer n relevant [] in
     clean n r.0 (record { start = hidden; chain = r.1; finish = r.2 })

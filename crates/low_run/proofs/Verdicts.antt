@@ -1,6 +1,6 @@
 -- From walks of a graph between the two sides of an observer to illegal chains, and back.
-use Rattle.std.proofs.Common.{◌≡◌, ◌⊎◌, inl, inr, ℕ, zero, suc, Bool, true, false, ◌&&◌, ◌==◌, [], Option, Some, None, Contains, option_map, option_and_then, slice_get, refl, sym, ap, subst, ◌∙◌, arith}
-use Rattle.std.proofs.lemmas.Option.{same_Some, slice_get_within}
+use Rattle.std.proofs.Common.{◌≡◌, ◌⊎◌, ◌↔◌, inl, inr, ℕ, zero, suc, Bool, true, false, ◌&&◌, ◌==◌, List, [], Option, Some, None, Contains, option_map, option_and_then, slice_get, refl, sym, ap, subst, ◌∙◌, arith}
+use Rattle.std.proofs.lemmas.Option.{same_Some}
 use Rattle.std.proofs.lemmas.Bool.Decides.{nat_tests}
 use Rattle.jo_prog.specs.declared.labels.Label.{Label}
 use Rattle.jo_prog.specs.declared.labels.Labels.{Labels}
@@ -16,13 +16,15 @@ use Rattle.jo_prog.specs.declared.operations.Operation.{Operation}
 use Rattle.jo_prog.specs.declared.operations.Operation.TheVariants.{Constant, Load, Store, Add, Subtract, InvokeStatic, Return, Other}
 use Rattle.dependence.specs.Paths.{stays, steps}
 use Rattle.dependence.specs.Flow.{IsFlowNode, FlowEdge, begins, skips, falls, leaves, calls, arrives, node_at, node_of, FlowPath}
-use Rattle.dependence.specs.Graph.{Instance, Node, node, IsNode, of_flow, of_argument, of_kind, of_thrown, IsReached, label_at}
-use Rattle.dependence.specs.Chains.{end_of}
-use Rattle.dependence.specs.GraphData.{graph_node, node_named, resolved_of, links_of, walk_end, WalksTo, IsDependenceGraph}
-use Rattle.flow_graph.specs.Slices.{HasEdgesInside}
-use Rattle.flow_graph.proofs.ChainWalks.{walk_is_valid, walk_ends, chain_is_walk}
-use Rattle.low_run.specs.Verdict.{IsHidden, result, IsObserved, call, let_out, IllegalChain, Clean}
-use Rattle.low_run.specs.Sides.{label_resolved, is_kind_on, is_on, hidden_nodes, observed_nodes, IsForbiddenWalk}
+use Rattle.dep_nodes.specs.Nodes.{Instance, Node, node, node_named}
+use Rattle.dep_nodes.specs.Graphs.{graph_name, graph_node, HasName, links_of, walk_end, WalksTo}
+use Rattle.dep_nodes.specs.Chains.{Link, end_of}
+use Rattle.dependence.specs.Graph.{IsNode, of_flow, of_argument, of_kind, of_thrown, IsReached, label_at}
+use Rattle.dependence.specs.GraphData.{resolved_of, IsDependenceGraph}
+use Rattle.flow_graph.proofs.ChainWalks.{walk_is_valid, walk_ends, chain_is_walk, chain_of_program, no_fork}
+use Rattle.low_run.specs.Verdict.{label_resolved, Hides, Shows, IsHidden, IsObserved, IllegalChain, Clean, CleanForAll}
+use Rattle.low_run.specs.ByEdges.{HiddenByEdges, result, ObservedByEdges, call, let_out, IllegalByEdges, AllCleanByEdges}
+use Rattle.low_run.specs.Sides.{is_kind_on, is_on, hidden_nodes, observed_nodes, IsForbiddenWalk}
 use Rattle.low_run.specs.declared.refusals.Side.TheVariants.{Hidden, Observed}
 use Rattle.low_run.proofs.Sides.{passes_at, number_in}
 
@@ -35,13 +37,6 @@ named graph n x at = named_by (slice_get graph.nodes n) refl at
     named_by : (o : Option NodeName) → slice_get graph.nodes n ≡ o → option_map node_named o ≡ Some x → (name : NodeName) × (slice_get graph.nodes n ≡ Some name) × (node_named name ≡ x)
     named_by None e h = absurd (cc)
     named_by (Some name) e h = (name, e, same_Some _ _ h)
-
-pub edges_inside : (program : Program) (labels : Labels) (graph : Graph) → IsDependenceGraph program labels graph → HasEdgesInside graph
-edges_inside program labels graph whole e inside =
-    let found = whole.only_edges e.from e.to e.kind inside in
-    let from = named graph e.from found.0 found.2 in
-    let to = named graph e.to found.1 found.3 in
-    (slice_get_within graph.nodes e.from from.0 from.1, slice_get_within graph.nodes e.to to.0 to.1)
 
 -- ---- kinds
 
@@ -146,27 +141,77 @@ argument_node program labels x pc k (of_argument i p a v reached flow place) e =
 argument_node program labels x pc k (of_kind i reached) e = absurd (cc)
 argument_node program labels x pc k (of_thrown i reached) e = absurd (cc)
 
--- ---- walks are illegal chains
+-- ---- names on a side
+
+on_hides : (labels : Labels) (observer : ℕ) (name : NodeName) → Hides labels observer name → is_on Hidden labels observer name ≡ true
+on_hides labels observer name (pc, kind, miss) = ap (λ k. is_kind_on Hidden labels observer (label_resolved labels name.resolved) k) kind ∙ miss
+
+on_shows : (labels : Labels) (observer : ℕ) (name : NodeName) → Shows labels observer name → is_on Observed labels observer name ≡ true
+on_shows labels observer name (inl k) = ap (λ x. is_kind_on Observed labels observer (label_resolved labels name.resolved) x) k.1 ∙ k.2
+on_shows labels observer name (inr k) = ap (λ x. is_kind_on Observed labels observer (label_resolved labels name.resolved) x) k.1 ∙ k.2
+
+name_node : (graph : Graph) (x : Node) (name : NodeName) (has : HasName graph x name) → graph_node graph has.0 ≡ Some x
+name_node graph x name has = ap (option_map node_named) has.1 ∙ ap (λ n. Some n) has.2
 
 module _ (program : Program) (labels : Labels) (graph : Graph) (whole : IsDependenceGraph program labels graph) (observer : ℕ) where
+  -- ---- walks are illegal chains
+
+  -- a walk from what is hidden to what is observed is an illegal chain
+  pub forbidden_is_illegal : (chain : Chain) → IsForbiddenWalk labels graph observer chain
+      → (from : Node) × (graph_node graph chain.start ≡ Some from) × IllegalChain graph labels observer from (links_of graph chain.steps)
+  forbidden_is_illegal chain f =
+      let s = passes_at (is_on Hidden labels observer) 0 graph.nodes chain.start f.start in
+      let place : s.place ≡ chain.start = omega (arith, s.number) in
+      let found : graph_name graph chain.start ≡ Some s.name = subst (λ n. graph_name graph n ≡ Some s.name) place s.found in
+      let from = node_named s.name in
+      let at : graph_node graph chain.start ≡ Some from = ap (option_map node_named) found in
+      let end = walk_end chain.start chain.steps in
+      let e = passes_at (is_on Observed labels observer) 0 graph.nodes end f.finish in
+      let end_place : e.place ≡ end = omega (arith, e.number) in
+      let end_found : graph_name graph end ≡ Some e.name = subst (λ n. graph_name graph n ≡ Some e.name) end_place e.found in
+      let ends = walk_ends program labels graph whole chain.start from chain.steps at f.walk in
+      let last : node_named e.name ≡ end_of from (links_of graph chain.steps) = same_Some _ _ (sym (ap (option_map node_named) end_found) ∙ ends) in
+      let illegal : IllegalChain graph labels observer from (links_of graph chain.steps) = record {
+        start = (s.name, (chain.start, found, refl), hidden_kind labels observer (label_resolved labels s.name.resolved) s.name.kind s.passes);
+        chain = walk_is_valid program labels graph whole chain.start from chain.steps at f.walk;
+        finish = (e.name, (end, end_found, last), observed_kind labels observer (label_resolved labels e.name.resolved) e.name.kind e.passes);
+      } in
+      (from, at, illegal)
+
+  -- where no walk leads from what is hidden to what is observed, the graph is clean
+  pub no_walk_is_clean : ((from : ℕ) → Contains (hidden_nodes labels observer graph) from → WalksTo graph (observed_nodes labels observer graph) from → ⊥) → Clean graph labels observer
+  no_walk_is_clean none = record {
+    no_chain = λ from links illegal.
+        let start = illegal.start in
+        let finish = illegal.finish in
+        let n = start.1.0 in
+        let walk = chain_is_walk graph whole.once [] n from links (name_node graph from start.0 start.1) illegal.chain in
+        let end : finish.1.0 ≡ walk_end n walk.0 = whole.once finish.1.0 (walk_end n walk.0) (end_of from links) (name_node graph (end_of from links) finish.0 finish.1) walk.2 in
+        let seen = number_in (is_on Observed labels observer) graph.nodes finish.1.0 finish.0 finish.1.1 (on_shows labels observer finish.0 finish.2) in
+        none n (number_in (is_on Hidden labels observer) graph.nodes n start.0 start.1.1 (on_hides labels observer start.0 start.2))
+        (walk.0, walk.1, subst (λ k. Contains (observed_nodes labels observer graph) k) end seen);
+    no_conflict = no_fork program labels graph whole;
+  }
+
+  -- ---- illegal chains of the graph are those of the program
+
   -- the node of a name, with its kind known
-  node_as : (n : ℕ) (name : NodeName) (kind : NodeKind) → slice_get graph.nodes n ≡ Some name → name.kind ≡ kind → IsNode program labels (node_named name)
+  node_as : (n : ℕ) (name : NodeName) (kind : NodeKind) → graph_name graph n ≡ Some name → name.kind ≡ kind → IsNode program labels (node_named name)
   node_as n name kind at e = whole.only_nodes n (node_named name) (ap (option_map node_named) at)
 
-  hidden_at : (n : ℕ) (name : NodeName) → slice_get graph.nodes n ≡ Some name → is_on Hidden labels observer name ≡ true → IsHidden program labels observer (node_named name)
-  hidden_at n name at on =
-      let k = hidden_kind labels observer (label_resolved labels name.resolved) name.kind on in
+  hidden_at : (n : ℕ) (name : NodeName) → graph_name graph n ≡ Some name → Hides labels observer name → HiddenByEdges program labels observer (node_named name)
+  hidden_at n name at k =
       let r = result_node program labels (node_named name) k.0 (node_as n name (RetVal k.0) at k.1) k.1 in
       let label = named_label program labels name (RetVal k.0) k.0 (whole.resolved n name at) k.1 refl in
       let i : Instance = (node_named name).inst in
-      let Is : NodeKind → Type 0 = λ kind. IsHidden program labels observer (node i kind) in
+      let Is : NodeKind → Type 0 = λ kind. HiddenByEdges program labels observer (node i kind) in
       subst Is (sym k.1) (result i k.0 r.0 r.1 (ap (λ l. misses labels observer (brings l)) (sym label) ∙ k.2))
 
-  observed_at : (n : ℕ) (name : NodeName) → slice_get graph.nodes n ≡ Some name → is_on Observed labels observer name ≡ true → IsObserved program labels observer (node_named name)
-  observed_at n name at on =
+  observed_at : (n : ℕ) (name : NodeName) → graph_name graph n ≡ Some name → Shows labels observer name → ObservedByEdges program labels observer (node_named name)
+  observed_at n name at shows =
       let i : Instance = (node_named name).inst in
-      let Is : NodeKind → Type 0 = λ kind. IsObserved program labels observer (node i kind) in
-      elim (observed_kind labels observer (label_resolved labels name.resolved) name.kind on) [
+      let Is : NodeKind → Type 0 = λ kind. ObservedByEdges program labels observer (node i kind) in
+      elim shows [
         | inl k ↦
             (let r = call_node program labels (node_named name) k.0 (node_as n name (Call k.0) at k.1) k.1 in
             let label = named_label program labels name (Call k.0) k.0 (whole.resolved n name at) k.1 refl in
@@ -177,68 +222,49 @@ module _ (program : Program) (labels : Labels) (graph : Graph) (whole : IsDepend
             subst Is (sym k.1) (let_out i k.0 r.0 r.1 (ap (λ l. reaches labels observer (lets_out l)) (sym label) ∙ k.2)))
       ]
 
-  -- a walk from what is hidden to what is observed is an illegal chain
-  pub forbidden_is_illegal : (chain : Chain) → IsForbiddenWalk labels graph observer chain
-      → (from : Node) × (graph_node graph chain.start ≡ Some from) × IllegalChain program labels observer from (links_of graph chain.steps)
-  forbidden_is_illegal chain f =
-      let s = passes_at (is_on Hidden labels observer) 0 graph.nodes chain.start f.start in
-      let place : s.place ≡ chain.start = omega (arith, s.number) in
-      let found : slice_get graph.nodes chain.start ≡ Some s.name = subst (λ n. slice_get graph.nodes n ≡ Some s.name) place s.found in
-      let from = node_named s.name in
-      let at : graph_node graph chain.start ≡ Some from = ap (option_map node_named) found in
-      let e = passes_at (is_on Observed labels observer) 0 graph.nodes (walk_end chain.start chain.steps) f.finish in
-      let end_place : e.place ≡ walk_end chain.start chain.steps = omega (arith, e.number) in
-      let end_found : slice_get graph.nodes (walk_end chain.start chain.steps) ≡ Some e.name = subst (λ n. slice_get graph.nodes n ≡ Some e.name) end_place e.found in
-      let ends = walk_ends program labels graph whole chain.start from chain.steps at f.walk in
-      let last : node_named e.name ≡ end_of from (links_of graph chain.steps) = same_Some _ _ (sym (ap (option_map node_named) end_found) ∙ ends) in (
-        from,
-        at,
-        record {
-          start = hidden_at chain.start s.name found s.passes;
-          chain = walk_is_valid program labels graph whole chain.start from chain.steps at f.walk;
-          finish = subst (IsObserved program labels observer) last (observed_at (walk_end chain.start chain.steps) e.name end_found e.passes);
-        },
-      )
-
-  -- ---- illegal chains are walks
-
   -- the name of a node with its label
-  resolved_label : (n : ℕ) (name : NodeName) (i : Instance) (kind : NodeKind) (pc : ℕ) → slice_get graph.nodes n ≡ Some name → node_named name ≡ node i kind
+  resolved_label : (n : ℕ) (name : NodeName) (i : Instance) (kind : NodeKind) (pc : ℕ) → graph_name graph n ≡ Some name → node_named name ≡ node i kind
       → resolved_of program (with_kind name kind) ≡ callee_at program name.method pc → label_resolved labels name.resolved ≡ label_at program labels i.method pc
   resolved_label n name i kind pc at e h =
       named_label program labels name kind pc (whole.resolved n name at) (ap (λ (x : Node). x.kind) e) h ∙ ap (λ m. label_at program labels m pc) (ap (λ (x : Node). x.inst.method) e)
 
-  hidden_number : (x : Node) → IsHidden program labels observer x → (n : ℕ) → graph_node graph n ≡ Some x → Contains (hidden_nodes labels observer graph) n
-  hidden_number x (result i pc reached flow miss) n at =
-      let name = named graph n (node i (RetVal pc)) at in
-      let label = resolved_label n name.0 i (RetVal pc) pc name.1 name.2 refl in
-      let kind : name.0.kind ≡ RetVal pc = ap (λ (y : Node). y.kind) name.2 in
-      let on : is_on Hidden labels observer name.0 ≡ true =
-      ap (λ k. is_kind_on Hidden labels observer (label_resolved labels name.0.resolved) k) kind ∙ (ap (λ l. misses labels observer (brings l)) label ∙ miss) in
-      number_in (is_on Hidden labels observer) graph.nodes n name.0 name.1 on
+  hidden_in_graph : (x : Node) → HiddenByEdges program labels observer x → IsHidden graph labels observer x
+  hidden_in_graph x (result i pc reached flow miss) =
+      let n = whole.each_node (node i (RetVal pc)) (of_flow i (RetVal pc) reached flow) in
+      let name = named graph n.0 (node i (RetVal pc)) n.1 in
+      let label = resolved_label n.0 name.0 i (RetVal pc) pc name.1 name.2 refl in
+      (name.0, (n.0, name.1, name.2), (pc, ap (λ (y : Node). y.kind) name.2, ap (λ l. misses labels observer (brings l)) label ∙ miss))
 
-  observed_number : (x : Node) → IsObserved program labels observer x → (n : ℕ) → graph_node graph n ≡ Some x → Contains (observed_nodes labels observer graph) n
-  observed_number x (call i pc reached flow reach) n at =
+  observed_in_graph : (x : Node) → ObservedByEdges program labels observer x → (n : ℕ) → graph_node graph n ≡ Some x → IsObserved graph labels observer x
+  observed_in_graph x (call i pc reached flow reach) n at =
       let name = named graph n (node i (Call pc)) at in
       let label = resolved_label n name.0 i (Call pc) pc name.1 name.2 refl in
-      let kind : name.0.kind ≡ Call pc = ap (λ (y : Node). y.kind) name.2 in
-      let on : is_on Observed labels observer name.0 ≡ true =
-      ap (λ k. is_kind_on Observed labels observer (label_resolved labels name.0.resolved) k) kind ∙ (ap (λ l. reaches labels observer (shown_at l)) label ∙ reach) in
-      number_in (is_on Observed labels observer) graph.nodes n name.0 name.1 on
-  observed_number x (let_out i pc reached flow reach) n at =
+      (name.0, (n, name.1, name.2), inl (pc, ap (λ (y : Node). y.kind) name.2, ap (λ l. reaches labels observer (shown_at l)) label ∙ reach))
+  observed_in_graph x (let_out i pc reached flow reach) n at =
       let name = named graph n (node i (Arg pc 0)) at in
       let label = resolved_label n name.0 i (Arg pc 0) pc name.1 name.2 refl in
-      let kind : name.0.kind ≡ Arg pc 0 = ap (λ (y : Node). y.kind) name.2 in
-      let on : is_on Observed labels observer name.0 ≡ true =
-      ap (λ k. is_kind_on Observed labels observer (label_resolved labels name.0.resolved) k) kind ∙ (ap (λ l. reaches labels observer (lets_out l)) label ∙ reach) in
-      number_in (is_on Observed labels observer) graph.nodes n name.0 name.1 on
+      (name.0, (n, name.1, name.2), inr (pc, ap (λ (y : Node). y.kind) name.2, ap (λ l. reaches labels observer (lets_out l)) label ∙ reach))
 
-  hidden_node : (x : Node) → IsHidden program labels observer x → IsNode program labels x
-  hidden_node x (result i pc reached flow miss) = of_flow i (RetVal pc) reached flow
+  illegal_in_graph : (from : Node) (links : List Link) → IllegalByEdges program labels observer from links → IllegalChain graph labels observer from links
+  illegal_in_graph from links illegal =
+      let start = hidden_in_graph from illegal.start in
+      let chain = (chain_of_program program labels graph whole [] from links).1 illegal.chain in
+      let walk = chain_is_walk graph whole.once [] start.1.0 from links (name_node graph from start.0 start.1) chain in
+      record { start = start; chain = chain; finish = observed_in_graph (end_of from links) illegal.finish (walk_end start.1.0 walk.0) walk.2 }
 
-  -- where no walk leads from what is hidden to what is observed, the observer is clean
-  pub no_walk_is_clean : ((from : ℕ) → Contains (hidden_nodes labels observer graph) from → WalksTo graph (observed_nodes labels observer graph) from → ⊥) → Clean program labels observer
-  no_walk_is_clean none from links illegal =
-      let n = whole.each_node from (hidden_node from illegal.start) in
-      let walk = chain_is_walk program labels graph whole [] n.0 from links n.1 illegal.chain in
-      none n.0 (hidden_number from illegal.start n.0 n.1) (walk.0, walk.1, observed_number (end_of from links) illegal.finish (walk_end n.0 walk.0) walk.2)
+  illegal_by_edges : (from : Node) (links : List Link) → IllegalChain graph labels observer from links → IllegalByEdges program labels observer from links
+  illegal_by_edges from links illegal =
+      let start = illegal.start in
+      let finish = illegal.finish in
+      record {
+        start = subst (λ x. HiddenByEdges program labels observer x) start.1.2 (hidden_at start.1.0 start.0 start.1.1 start.2);
+        chain = (chain_of_program program labels graph whole [] from links).0 illegal.chain;
+        finish = subst (λ x. ObservedByEdges program labels observer x) finish.1.2 (observed_at finish.1.0 finish.0 finish.1.1 finish.2);
+      }
+
+  pub illegal_both : (from : Node) (links : List Link) → IllegalChain graph labels observer from links ↔ IllegalByEdges program labels observer from links
+  illegal_both from links = (illegal_by_edges from links, illegal_in_graph from links)
+
+pub clean_by_edges : (program : Program) (labels : Labels) (graph : Graph) → IsDependenceGraph program labels graph → CleanForAll graph labels → AllCleanByEdges program labels
+clean_by_edges program labels graph whole clean observer among from links illegal =
+    (clean observer among).no_chain from links ((illegal_both program labels graph whole observer from links).1 illegal)

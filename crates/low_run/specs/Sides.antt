@@ -1,20 +1,18 @@
 -- Which nodes of a graph an observer may not depend on, and which it may see, by the label of the method that a node's
 -- instruction names.
-use Rattle.std.specs.Prelude.{ℕ, suc, Bool, false, ◌==◌, ◌&&◌, if◌then◌else◌, List, [], ◌∷◌, Option, option_and_then, Contains}
+use Rattle.std.specs.Prelude.{ℕ, suc, Bool, false, ◌==◌, ◌&&◌, if◌then◌else◌, List, [], ◌∷◌, Option, Contains}
 use Rattle.jo_prog.specs.declared.labels.Label.{Label}
 use Rattle.jo_prog.specs.declared.labels.Labels.{Labels}
-use Rattle.jo_prog.specs.Labels.{label_of, reaches, misses, shown_at, brings, lets_out}
+use Rattle.jo_prog.specs.Labels.{reaches, misses, shown_at, brings, lets_out}
 use Rattle.dep_nodes.specs.declared.kinds.NodeKind.{NodeKind}
 use Rattle.dep_nodes.specs.declared.kinds.NodeKind.TheVariants.{Call, RetVal, Arg}
 use Rattle.dep_nodes.specs.declared.graphs.NodeName.{NodeName}
 use Rattle.dep_nodes.specs.declared.chains.Chain.{Chain}
 use Rattle.dep_nodes.specs.declared.graphs.Graph.{Graph}
-use Rattle.dependence.specs.GraphData.{IsWalk, walk_end}
+use Rattle.dep_nodes.specs.Graphs.{IsWalk, walk_end}
+use Rattle.low_run.specs.Verdict.{label_resolved}
 use Rattle.low_run.specs.declared.refusals.Side.{Side}
 use Rattle.low_run.specs.declared.refusals.Side.TheVariants.{Hidden, Observed}
-
-abbrev pub label_resolved : Labels → Option ℕ → Option Label
-label_resolved labels resolved = option_and_then (label_of labels) resolved
 
 -- a node of this kind, whose call names a method with this label, is on the side
 abbrev pub is_kind_on : Side → Labels → ℕ → Option Label → NodeKind → Bool

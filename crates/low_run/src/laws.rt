@@ -1,5 +1,5 @@
 //! Laws of the definitions. Each function is empty: what it ensures is the law.
-ghost use Rattle.std.specs.Prelude.{◌≢◌, ◌⊎◌, ℕ, ℤ, Bool, true, false, List, ◌∷◌, ◌++◌, Contains, IsSome};
+ghost use Rattle.std.specs.Prelude.{◌≢◌, ◌⊎◌, ◌↔◌, ℕ, ℤ, Bool, true, false, List, ◌∷◌, ◌++◌, Contains, IsSome};
 ghost use Rattle.jo_prog.specs.Machine.{State, step};
 ghost use Rattle.jo_prog.specs.PlainCode.{IsPlainProgram};
 ghost use Rattle.jo_prog.specs.Runs.{enabled};
@@ -9,14 +9,29 @@ ghost use Rattle.jo_prog.specs.declared.program.Program.{Program};
 ghost use Rattle.jo_prog.specs.declared.runs.Event.{Event};
 ghost use Rattle.jo_prog.specs.declared.runs.Event.TheVariants.{Out};
 ghost use Rattle.jo_prog.specs.declared.runs.SourceInput.{SourceInput};
+ghost use Rattle.dep_nodes.specs.declared.graphs.Graph.{Graph};
+ghost use Rattle.dep_nodes.specs.Chains.{Link};
+ghost use Rattle.dep_nodes.specs.Nodes.{Node};
+ghost use Rattle.dependence.specs.GraphData.{IsDependenceGraph};
 ghost use Rattle.low_run.specs.Leak.{leaking_program};
-ghost use Rattle.low_run.specs.Verdict.{CleanForAll};
+ghost use Rattle.low_run.specs.ByEdges.{AllCleanByEdges, IllegalByEdges};
+ghost use Rattle.low_run.specs.Verdict.{CleanForAll, IllegalChain};
 ghost use Rattle.low_run.specs.RunStates.{IsState};
 ghost use Rattle.low_run.specs.Security.{Agree, Secure};
 
-/// A plain program without an illegal chain for any of its observers is secure.
+/// A plain program is secure whose dependence graph is clean for each of its observers; and one without an illegal chain
+/// along its dependence edges is, whether there is a graph of it as data or not.
 pub fn clean_is_secure()
-    ensures { (program : Program) (labels : Labels) → IsPlainProgram program labels → CleanForAll program labels → Secure program labels }
+    ensures graph { (program : Program) (labels : Labels) (graph : Graph)
+        → IsPlainProgram program labels → IsDependenceGraph program labels graph → CleanForAll graph labels → Secure program labels }
+    ensures edges { (program : Program) (labels : Labels) → IsPlainProgram program labels → AllCleanByEdges program labels → Secure program labels }
+{}
+
+/// The illegal chains of a program's dependence graph are those along its dependence edges.
+pub fn illegal_chains_are_of_the_program()
+    ensures { (program : Program) (labels : Labels) (graph : Graph) (observer : ℕ) (from : Node) (links : List Link)
+        → IsDependenceGraph program labels graph
+        → IllegalChain graph labels observer from links ↔ IllegalByEdges program labels observer from links }
 {}
 
 /// Security is no empty word: the worked program that shows its secret isn't secure.

@@ -1,10 +1,11 @@
 //! What an observer may not depend on and what it may see, and a chain from the one to the other.
 ghost use Rattle.std.specs.Prelude.{◌≡◌, ◌^◌, ◌<◌, ℕ, IfOk, IfSome, IfNone, Some, Contains, length};
 ghost use Rattle.jo_prog.specs.Labels.{reaches, misses, shown_at, brings, lets_out};
-ghost use Rattle.dependence.specs.GraphData.{IsDependenceGraph, WalksTo};
+ghost use Rattle.dep_nodes.specs.Graphs.{WalksTo};
+ghost use Rattle.dependence.specs.GraphData.{IsDependenceGraph};
 ghost use Rattle.flow_graph.specs.Slices.{HasEdgesInside};
-ghost use Rattle.low_run.specs.Verdict.{CleanForAll, Reports};
-ghost use Rattle.low_run.specs.Sides.{label_resolved, is_on, places_from, hidden_nodes, observed_nodes, IsForbiddenWalk};
+ghost use Rattle.low_run.specs.Verdict.{label_resolved, CleanForAll, Reports};
+ghost use Rattle.low_run.specs.Sides.{is_on, places_from, hidden_nodes, observed_nodes, IsForbiddenWalk};
 
 use chain_report::report;
 use dep_nodes::{Chain, Graph, NodeKind, NodeName};
@@ -137,7 +138,7 @@ fn chain_for(
     slicer::find_walk(alloc, graph, hidden.as_slice(), observed.as_slice())
 }
 
-/// The report for the first observer that has an illegal chain.
+/// The report for the first observer that has an illegal chain. None where the graph is clean for each.
 pub fn refusal(
     alloc: Global,
     program: &Program,
@@ -145,8 +146,8 @@ pub fn refusal(
     graph: &Graph,
 ) -> Result<Option<Vec<u8>>, Memory>
     requires { IsDependenceGraph program.now labels.now graph.now }
-    ensures clean { IfOk result (λ o. IfNone o (CleanForAll program.now labels.now)) }
-    ensures report { IfOk result (λ o. IfSome o (λ text. Reports program.now labels.now text.items)) }
+    ensures clean { IfOk result (λ o. IfNone o (CleanForAll graph.now labels.now)) }
+    ensures report { IfOk result (λ o. IfSome o (λ text. Reports program.now labels.now graph.now text.items)) }
 {
     for observer in labels.observers.as_slice() {
         if let Some(chain) = chain_for(alloc, labels, graph, *observer)? {

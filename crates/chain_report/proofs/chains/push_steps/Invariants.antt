@@ -1,6 +1,6 @@
 use Rattle.std.proofs.Common.{◌≡◌, ◌++◌, drop}
 use Rattle.std.specs.List.{flat_map}
-use Rattle.dependence.specs.GraphData.{links_of}
+use Rattle.dep_nodes.specs.Graphs.{links_of}
 use Rattle.chain_report.specs.Report.{step_line}
 use Rattle.chain_report.proofs.chains.push_steps.Given as goal
 

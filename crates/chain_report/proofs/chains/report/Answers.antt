@@ -1,6 +1,6 @@
 use Rattle.std.specs.Prelude.{codes, [], ◌∷◌}
 use Rattle.std.specs.List.{flat_map}
-use Rattle.dependence.specs.GraphData.{links_of}
+use Rattle.dep_nodes.specs.Graphs.{links_of}
 use Rattle.chain_report.specs.Report.{level_name, step_line}
 use Rattle.chain_report.specs.Nodes.{spelled_node}
 use Rattle.chain_report.proofs.ReportLines.{assembled}

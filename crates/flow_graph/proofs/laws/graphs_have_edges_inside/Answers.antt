@@ -1,5 +1,8 @@
-use Rattle.flow_graph.proofs.ChainWalks.{edges_inside}
+use Rattle.flow_graph.proofs.ChainWalks.{edges_inside, no_fork}
 use Rattle.flow_graph.proofs.laws.graphs_have_edges_inside.Goals as goal
 
-pub returns : goal.returns
-returns c = edges_inside
+pub returns-clause-inside : goal.returns-clause-inside
+returns-clause-inside c = edges_inside
+
+pub returns-clause-no_fork : goal.returns-clause-no_fork
+returns-clause-no_fork c = no_fork

@@ -2,7 +2,7 @@ use Rattle.std.proofs.Common.{◌≡◌, ◌==◌, ◌+◌, ◌++◌, ◌∷◌,
 use Rattle.std.proofs.lemmas.List.{take_more, append-nil}
 use Rattle.std.proofs.lemmas.Bool.{cond-true, cond-false}
 use Rattle.dep_nodes.specs.declared.kinds.EdgeKind.TheVariants.{Heap}
-use Rattle.dependence.specs.GraphData.{edge}
+use Rattle.dep_nodes.specs.Graphs.{edge}
 use Rattle.flow_graph.specs.Building.{heap_edges}
 use Rattle.flow_graph.proofs.BuildingLemmas.{heap_edges-push, append_two, and_true}
 use Rattle.flow_graph.proofs.sdg.add_heap.Goals as goal

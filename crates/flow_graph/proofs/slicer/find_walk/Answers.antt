@@ -1,7 +1,7 @@
 use Rattle.std.proofs.Common.{◌≡◌, get_or, slice_get, Some, Contains, inl, inr, sym, ap, subst, ◌∙◌, arith}
 use Rattle.std.proofs.lemmas.Bool.{cases_lt, both_ways}
 use Rattle.std.proofs.lemmas.Option.{slice_get-get_or, get_or_from_slice_get}
-use Rattle.dependence.specs.GraphData.{IsWalk, walk_end}
+use Rattle.dep_nodes.specs.Graphs.{IsWalk, walk_end}
 use Rattle.flow_graph.specs.Slices.{IsMarked}
 use Rattle.flow_graph.proofs.slicer.find_walk.Goals as goal
 

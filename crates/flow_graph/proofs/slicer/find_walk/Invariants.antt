@@ -1,5 +1,5 @@
 use Rattle.std.proofs.Common.{◌≡◌, ◌<◌, ℕ, slice_get, Some}
-use Rattle.dependence.specs.GraphData.{WalksTo}
+use Rattle.dep_nodes.specs.Graphs.{WalksTo}
 use Rattle.flow_graph.proofs.slicer.find_walk.Given as goal
 
 abbrev pub invariant-loop-node : goal.invariant-loop-node

@@ -1,5 +1,5 @@
 use Rattle.std.proofs.Common.{◌≡◌, ◌+◌, ◌≤◌, length}
-use Rattle.dependence.specs.GraphData.{IsWalk, walk_end}
+use Rattle.dep_nodes.specs.Graphs.{IsWalk, walk_end}
 use Rattle.flow_graph.specs.Slices.{mark_at, IsMarkedAt, distance_of}
 use Rattle.flow_graph.proofs.slicer.follow.Given as goal
 

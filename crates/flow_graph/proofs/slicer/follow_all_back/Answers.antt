@@ -10,7 +10,7 @@ follow_back-requires-clause-inside c =
     let es = c.as_slice-edge-items.result.now in
     let e = c.edge-item.result in
     let of_graph : Contains es e = (c.loop-edge.edge-index, omega arith, sym c.edge-item.is) in
-    (c.requires.inside e (subst (λ t. Contains t e) c.as_slice-edge-items.ensures of_graph)).0
+    (c.requires.inside e.from e.to e.kind (subst (λ t. Contains t e) c.as_slice-edge-items.ensures of_graph)).0
 
 pub loop-edge-preserved : goal.loop-edge-preserved
 loop-edge-preserved c =

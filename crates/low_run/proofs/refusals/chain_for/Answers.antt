@@ -1,5 +1,5 @@
 use Rattle.std.proofs.Common.{◌∙◌, ℕ, List, Contains, IfOk, IfNone, subst}
-use Rattle.dependence.specs.GraphData.{WalksTo}
+use Rattle.dep_nodes.specs.Graphs.{WalksTo}
 use Rattle.low_run.specs.Sides.{is_on, observed_nodes}
 use Rattle.low_run.specs.declared.refusals.Side.TheVariants.{Observed}
 use Rattle.low_run.proofs.Sides.{places_inside}

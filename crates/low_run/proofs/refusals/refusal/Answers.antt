@@ -1,11 +1,12 @@
 use Rattle.std.proofs.Common.{◌≡◌, ◌≤◌, ℕ, List, Option, Some, IfSome, IfNone, Contains, length, slice_get, refl, subst}
 use Rattle.std.proofs.lemmas.Option.{slice_get_read}
 use Rattle.dep_nodes.specs.declared.chains.Chain.{Chain}
-use Rattle.dependence.specs.GraphData.{links_of, WalksTo}
+use Rattle.dep_nodes.specs.Graphs.{links_of, WalksTo}
 use Rattle.low_run.specs.Sides.{hidden_nodes, observed_nodes, IsForbiddenWalk}
 use Rattle.low_run.specs.Verdict.{Clean}
 use Rattle.low_run.proofs.Sides.{clean_more, clean_all}
-use Rattle.low_run.proofs.Verdicts.{edges_inside, forbidden_is_illegal, no_walk_is_clean}
+use Rattle.flow_graph.proofs.ChainWalks.{edges_inside}
+use Rattle.low_run.proofs.Verdicts.{forbidden_is_illegal, no_walk_is_clean}
 use Rattle.low_run.proofs.refusals.refusal.Goals as goal
 
 pub chain_for-requires-clause-edges : goal.chain_for-requires-clause-edges
@@ -37,10 +38,10 @@ loop-observer-preserved c =
     let at = subst (λ (xs : List ℕ). slice_get xs c.loop-observer.observer-index ≡ Some o) c.as_slice-observer-items.ensures read in
     let none = subst (λ (x : Option Chain). IfNone x ((from : ℕ) → Contains (hidden_nodes labels o c.args.graph.now) from → WalksTo c.args.graph.now (observed_nodes labels o c.args.graph.now) from → ⊥))
     c.in_default.is c.in_ok-chain.ensures.none in
-    clean_more (Clean c.args.program.now labels) labels.observers c.loop-observer.observer-index o c.loop-observer.invariant at (no_walk_is_clean c.args.program.now labels c.args.graph.now c.requires o none)
+    clean_more (Clean c.args.graph.now labels) labels.observers c.loop-observer.observer-index o c.loop-observer.invariant at (no_walk_is_clean c.args.program.now labels c.args.graph.now c.requires o none)
 
 pub returns-clause-clean : goal.returns-clause-clean
 returns-clause-clean c =
     let beyond : length c.args.labels.now.observers ≤ c.loop-observer.observer-index =
     subst (λ (xs : List ℕ). length xs ≤ c.loop-observer.observer-index) c.as_slice-observer-items.ensures c.loop-observer-test.false in
-    clean_all (Clean c.args.program.now c.args.labels.now) c.args.labels.now.observers c.loop-observer.observer-index c.loop-observer.invariant beyond
+    clean_all (Clean c.args.graph.now c.args.labels.now) c.args.labels.now.observers c.loop-observer.observer-index c.loop-observer.invariant beyond

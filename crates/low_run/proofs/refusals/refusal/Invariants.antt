@@ -4,4 +4,4 @@ use Rattle.low_run.proofs.refusals.refusal.Given as goal
 
 -- each observer so far is clean
 abbrev pub invariant-loop-observer : goal.invariant-loop-observer
-invariant-loop-observer l = (k o : ℕ) → k < l.observer-index → slice_get l.labels.observers k ≡ Some o → Clean l.program l.labels o
+invariant-loop-observer l = (k o : ℕ) → k < l.observer-index → slice_get l.labels.observers k ≡ Some o → Clean l.graph l.labels o

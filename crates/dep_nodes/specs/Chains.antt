@@ -1,0 +1,110 @@
+-- Valid chains over any edges between nodes (after Horwitz, Reps and Binkley 1990; the automaton and `pass` are this
+-- project's own). An automaton keeps the list of open calls: a return that finds an open call closes the last one, which
+-- must be its own, and one that finds none goes on to a caller; a heap or a fork edge forgets the open calls.
+use Rattle.std.specs.Prelude.{◌≡◌, ◌≢◌, ℕ, Bool, true, false, ◌&&◌, ◌==◌, List, [], ◌∷◌, Option, Some, None, if◌then◌else◌}
+use Rattle.std.specs.Str.{bytes_eq}
+use Rattle.dep_nodes.specs.declared.kinds.NodeKind.{NodeKind}
+use Rattle.dep_nodes.specs.declared.kinds.NodeKind.TheVariants.{Call as CallNode, RetVal, RetKind, Throw, Arg as ArgNode}
+use Rattle.dep_nodes.specs.declared.kinds.EdgeKind.{EdgeKind}
+use Rattle.dep_nodes.specs.declared.kinds.EdgeKind.TheVariants.{Data, Control, Out, Arg, Call, Ret, Heap, Fork}
+use Rattle.dep_nodes.specs.declared.chains.Word.{Word}
+use Rattle.dep_nodes.specs.declared.chains.Word.TheVariants.{Edge, Pass}
+use Rattle.dep_nodes.specs.Nodes.{Node, CallSite, call_site}
+
+abbrev pub same_site : CallSite → CallSite → Bool
+same_site a b = (a.caller.method == b.caller.method) && (bytes_eq a.caller.context b.caller.context && (a.pc == b.pc))
+
+-- ---- the automaton
+
+-- the open calls behind the begin of a call
+abbrev pub opened : List CallSite → Option CallSite → Option (List CallSite)
+opened calls None = None
+opened calls (Some call) = Some (call ∷ calls)
+
+-- the open calls behind a return to a call
+abbrev pub closed : List CallSite → CallSite → Option (List CallSite)
+closed [] call = Some []
+closed (last ∷ calls) call = if same_site last call then Some calls else None
+
+abbrev pub returned : List CallSite → Option CallSite → Option (List CallSite)
+returned calls None = None
+returned calls (Some call) = closed calls call
+
+-- The open calls behind an edge, where it may stand there. The call of an `arg` or `call` edge is where it begins, that of
+-- a `ret` edge where it ends; an end without a pc is none.
+abbrev pub adv : List CallSite → Node → EdgeKind → Node → Option (List CallSite)
+adv calls from Data to = Some calls
+adv calls from Control to = Some calls
+adv calls from Out to = Some calls
+adv calls from Arg to = opened calls (call_site from)
+adv calls from Call to = opened calls (call_site from)
+adv calls from Ret to = returned calls (call_site to)
+adv calls from Heap to = Some []
+adv calls from Fork to = Some []
+
+-- ---- matched paths
+
+-- a word of edges that stay within a call and what it calls: none that forgets open calls, no return that finds none open
+abbrev pub StaysWithin : List CallSite → EdgeKind → Type 0
+StaysWithin calls Heap = ⊥
+StaysWithin calls Fork = ⊥
+StaysWithin calls Ret = calls ≢ []
+StaysWithin calls _ = Unit {0}
+
+-- a path from a node where these calls are open to one where none is
+pub data Matched (E : Node → EdgeKind → Node → Type 0) : List CallSite → Node → Node → Type 0 where
+  arrived : (n : Node) → Matched E [] n n
+  onwards : (calls next : List CallSite) (kind : EdgeKind) (a b c : Node) → E a kind b → StaysWithin calls kind → adv calls a kind b ≡ Some next → Matched E next b c → Matched E calls a c
+
+-- a matched path, which leaves no call open
+abbrev pub IsMatched : (Node → EdgeKind → Node → Type 0) → Node → Node → Type 0
+IsMatched E a b = Matched E [] a b
+
+-- ---- chains
+
+-- where values go into a call, and how it comes out of one
+abbrev pub goes_in : NodeKind → Bool
+goes_in (ArgNode pc i) = true
+goes_in (CallNode pc) = true
+goes_in _ = false
+
+abbrev pub comes_out : NodeKind → Bool
+comes_out (RetVal pc) = true
+comes_out (RetKind pc) = true
+comes_out (Throw pc) = true
+comes_out _ = false
+
+-- a `pass` step stands for a matched path from where a call goes in to where the same call comes out
+pub record IsPass (E : Node → EdgeKind → Node → Type 0) (from to : Node) : Type 0 where
+  pub begin : goes_in from.kind ≡ true
+  pub end : comes_out to.kind ≡ true
+  pub same_call : call_site from ≡ call_site to
+  pub path : IsMatched E from to
+
+-- a step with this word leads on, with these open calls before and behind it
+abbrev pub StepsOn : (Node → EdgeKind → Node → Type 0) → List CallSite → Node → Word → Node → List CallSite → Type 0
+StepsOn E calls from (Edge kind) to next = E from kind to × (adv calls from kind to ≡ Some next)
+StepsOn E calls from Pass to next = IsPass E from to × (next ≡ calls)
+
+-- a step of a chain, to its end
+pub record Link : Type 0 where
+  pub word : Word
+  pub to : Node
+
+-- the steps lead on from a node where these calls are open
+abbrev pub IsChainFrom : (Node → EdgeKind → Node → Type 0) → List CallSite → Node → List Link → Type 0
+IsChainFrom E calls from [] = Unit {0}
+IsChainFrom E calls from (link ∷ links) = (next : List CallSite) × StepsOn E calls from link.word link.to next × IsChainFrom E next link.to links
+
+-- a valid chain from a node
+abbrev pub IsValidChain : (Node → EdgeKind → Node → Type 0) → Node → List Link → Type 0
+IsValidChain E from links = IsChainFrom E [] from links
+
+-- where a chain ends
+abbrev pub end_of : Node → List Link → Node
+end_of from [] = from
+end_of from (link ∷ links) = end_of link.to links
+
+-- a valid chain leads from one node to another
+abbrev pub HasChain : (Node → EdgeKind → Node → Type 0) → Node → Node → Type 0
+HasChain E from to = (links : List Link) × IsValidChain E from links × (end_of from links ≡ to)
