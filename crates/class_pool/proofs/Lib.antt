@@ -16,3 +16,4 @@ pub mod GrammarClass
 pub mod FirstFaultSteps
 pub mod FirstFaultEntries
 pub mod FirstFaultReferences
+pub mod FirstFaultFields
