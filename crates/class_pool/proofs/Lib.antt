@@ -21,3 +21,4 @@ pub mod KeptInsns
 pub mod KeptAgain
 pub mod GrammarBytes
 pub mod GrammarFits
+pub mod FirstFaultFields

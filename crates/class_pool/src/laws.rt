@@ -1,11 +1,13 @@
 //! Laws of the grammar of class files.
 ghost use Rattle.std.specs.Prelude.{◌≡◌, ◌↔◌, ◌<◌, ◌^◌, ℕ, List, length, drop, Ok, Err};
 ghost use Rattle.std.specs.List.{AllByRecursion};
-ghost use Rattle.class_pool.specs.ClassOrder.{class_of};
+ghost use Rattle.class_pool.specs.ClassOrder.{class_of, read_field};
 ghost use Rattle.class_pool.specs.ClassGrammar.{IsClass};
 ghost use Rattle.class_pool.specs.Pool.{pool_of};
 ghost use Rattle.class_pool.specs.FirstFaultPool.{PoolStops};
 ghost use Rattle.class_pool.specs.Fitting.{FitsClass};
+ghost use Rattle.class_pool.specs.FirstFaultParts.{FieldStops};
+ghost use Rattle.class_pool.specs.declared.entries.PoolEntry.{PoolEntry};
 ghost use Rattle.class_pool.specs.declared.classes.ClassFile.{ClassFile};
 ghost use Rattle.class_pool.specs.declared.faults.ClassFault.{ClassFault};
 
@@ -27,4 +29,9 @@ pub fn pool_fault_is_by_items()
 /// What is read as a class can be written.
 pub fn what_is_read_fits()
     ensures { (bytes : List ℕ) (c : ClassFile) → IsClass bytes c → FitsClass c }
+{}
+
+/// The first fault of the field that begins there, where the pool is this one, is that of its items in order.
+pub fn field_fault_is_by_items()
+    ensures { (size : ℕ) (pool : List PoolEntry) (rest : List ℕ) (f : ClassFault) → AllByRecursion (λ byte. byte < 2 ^ 8) rest → (read_field size pool rest ≡ Err f) ↔ FieldStops size pool rest f }
 {}
