@@ -18,7 +18,8 @@ use Rattle.class_pool.specs.Items.{◌>>=◌, place_of, passing, number, bytes_o
 use Rattle.class_pool.specs.Pool.{entry_at, utf8_at, is_text, is_text_that}
 use Rattle.class_pool.specs.Code.{dims_of, has_dims_that, dims_at}
 use Rattle.class_pool.specs.ClassOrder
-use Rattle.class_pool.specs.ClassOrder.{has_flag, static_flag, class_index, text_index, fits_kind, read_head, attribute_head, skip_attribute, skip_attributes, is_named, fits_constant, field_attribute, field_attributes, read_field}
+use Rattle.jo_insn.specs.AccessFlags.{has_flag, static_flag}
+use Rattle.class_pool.specs.ClassOrder.{class_index, text_index, fits_kind, read_head, attribute_head, skip_attribute, skip_attributes, is_named, fits_constant, field_attribute, field_attributes, read_field}
 use Rattle.class_pool.specs.ClassGrammar.{u2, SpellsEach, Attribute, SpellsAttribute, SpellsClassIndex, IsConstantValue, HasConstant, no_constant, not_constant, constant_value, SpellsField}
 use Rattle.class_pool.specs.FirstFaultItems.{IsCut, Check, Either, OneStops}
 use Rattle.class_pool.specs.FirstFaultPool.{HasText}
