@@ -15,7 +15,7 @@ use Rattle.class_pool.specs.declared.entries.PoolEntry.TheVariants.{Second, Utf8
 use Rattle.class_pool.specs.declared.faults.ClassCode.{ClassCode}
 use Rattle.class_pool.specs.declared.faults.ClassCode.TheVariants.{PoolIndex, BadDescriptor}
 use Rattle.class_pool.specs.declared.faults.ClassFault.{ClassFault}
-use Rattle.class_pool.specs.Items.{◌>>=◌, place_of, fault, passing}
+use Rattle.class_pool.specs.Items.{place_of, fault}
 use Rattle.class_pool.specs.Pool.{entry_at, utf8_at, desc_at, is_class, is_name_and_type, read_entries, questions, member_questions, first_failing, entry_size, reference_fault, unless_fault, read_pool_from, pool_of}
 use Rattle.class_pool.specs.ClassGrammar.{SpellsEntry, SpellsEntries, no_entry, single, twofold, IsClassEntry, RefersWell}
 use Rattle.class_pool.specs.FirstFaultItems.{Never, Check}
@@ -23,14 +23,10 @@ use Rattle.class_pool.specs.FirstFaultPool.{HasText, IsNameAndTypeEntry, NamesWe
 use Rattle.class_pool.proofs.GrammarNumbers.{joined, split}
 use Rattle.class_pool.proofs.GrammarPool.{text_decided, there, there_decided, pool_read, pool_again}
 use Rattle.class_pool.proofs.Many.{with_front}
-use Rattle.class_pool.proofs.FirstFaultSteps.{StopsBy, Reads, never, part, check, regroup_check, number_reads, fails_first, goes_on, bytes_left}
+use Rattle.class_pool.proofs.FirstFaultSteps.{StopsBy, Reads, never, part, check, asked, ask, by_question, regroup_check, number_reads, bytes_left}
 use Rattle.class_pool.proofs.FirstFaultEntries.{entry_reads, Answers, entries_answer, behind_entries}
 
 -- ---- what is asked of an entry
-
-abbrev asked : Option ClassCode → ℕ → Result (Unit {0}) ClassFault
-asked None place = Ok tt
-asked (Some code) place = Err (fault code place)
 
 -- the questions stop so, and all of them pass exactly where the second fact holds
 record AreAsked (these : List (Bool × ClassCode)) (P Q : Type 0) (place : ℕ) : Type 0 where
@@ -41,22 +37,19 @@ none_asked : (place : ℕ) → AreAsked [] (Unit {0}) (Unit {0}) place
 none_asked place = record { stopped = check PoolIndex place true (λ _. tt, λ _. refl) (λ _. check BadDescriptor place true (λ _. tt, λ _. refl) (λ _. never)); passed = (λ _. tt, λ _. refl) }
 
 one_asked : {P : Type 0} (place : ℕ) (a : Bool) → Decides a P → AreAsked ((a, PoolIndex) ∷ []) P P place
-one_asked place true decides = record { stopped = check PoolIndex place true decides (λ holds. check BadDescriptor place true (λ _. holds, λ _. refl) (λ _. never)); passed = (λ _. decides.0 refl, λ _. refl) }
-one_asked place false decides = record {
-  stopped = check PoolIndex place false decides (λ holds. check BadDescriptor place true (λ _. holds, λ _. refl) (λ _. never {a = tt}));
-  passed = (λ is. absurd (cc), λ holds. absurd (true≢false (sym (decides.1 holds))));
-}
+one_asked place a decides = record { stopped = ask a PoolIndex place [] decides (λ holds. check BadDescriptor place true (λ _. holds, λ _. refl) (λ _. never)); passed = both a decides }
+  where
+    both : {P : Type 0} (a : Bool) → Decides a P → (first_failing ((a, PoolIndex) ∷ []) ≡ None) ↔ P
+    both true decides = (λ _. decides.0 refl, λ _. refl)
+    both false decides = (λ is. absurd (cc), λ holds. absurd (true≢false (sym (decides.1 holds))))
 
 two_asked : {P Q : Type 0} (place : ℕ) (a b : Bool) → Decides a P → (P → Decides b Q) → (Q → P) → AreAsked ((a, PoolIndex) ∷ (b, BadDescriptor) ∷ []) P Q place
-two_asked place true true first second before = record { stopped = check PoolIndex place true first (λ p. check BadDescriptor place true (second p) (λ _. never)); passed = (λ _. (second (first.0 refl)).0 refl, λ _. refl) }
-two_asked place true false first second before = record {
-  stopped = check PoolIndex place true first (λ p. check BadDescriptor place false (second p) (λ _. never {a = tt}));
-  passed = (λ is. absurd (cc), λ q. absurd (true≢false (sym ((second (before q)).1 q))));
-}
-two_asked place false b first second before = record {
-  stopped = check PoolIndex place false first (λ p. check BadDescriptor place b (second p) (λ _. never {a = tt}));
-  passed = (λ is. absurd (cc), λ q. absurd (true≢false (sym (first.1 (before q)))));
-}
+two_asked place a b first second before = record { stopped = ask a PoolIndex place ((b, BadDescriptor) ∷ []) first (λ p. ask b BadDescriptor place [] (second p) (λ _. never)); passed = both a b first second before }
+  where
+    both : {P Q : Type 0} (a b : Bool) → Decides a P → (P → Decides b Q) → (Q → P) → (first_failing ((a, PoolIndex) ∷ (b, BadDescriptor) ∷ []) ≡ None) ↔ Q
+    both true true first second before = (λ _. (second (first.0 refl)).0 refl, λ _. refl)
+    both true false first second before = (λ is. absurd (cc), λ q. absurd (true≢false (sym ((second (before q)).1 q))))
+    both false b first second before = (λ is. absurd (cc), λ q. absurd (true≢false (sym (first.1 (before q)))))
 
 is_class_entry : (o : Option PoolEntry) → Decides (is_class o) (IsClassEntry o)
 is_class_entry None = (λ e. absurd (cc), λ h. absurd h)
@@ -140,9 +133,8 @@ module _ (size : ℕ) (pool : List PoolEntry) where
         next = (entry_asked pool (place_of size rest) entry).stopped.found f (rw failed (ap Err here));
       }
 
-  by_question : {P : Type 0} (o : Option ClassCode) → (o ≡ None → P) → ((code : ClassCode) → o ≡ Some code → P) → P
-  by_question None passed failed = passed refl
-  by_question (Some code) passed failed = failed code refl
+  behind_one : (entry : PoolEntry) {these others : List PoolEntry} → these ≡ others → entry ∷ these ≡ entry ∷ others
+  behind_one entry same = ap (λ (es : List PoolEntry). entry ∷ es) same
 
   references_found : {these : List PoolEntry} {text : List ℕ} → SpellsEntries these text → (rest left : List ℕ) → rest ≡ text ++ left → (f : ClassFault) → reference_fault size pool rest these ≡ Some f → ReferencesStop size pool these rest f
   unfolding reference_fault
@@ -157,7 +149,7 @@ module _ (size : ℕ) (pool : List PoolEntry) where
         more = later.more;
         text = first ++ later.text;
         left = later.left;
-        among = ap (λ (es : List PoolEntry). entry ∷ es) later.among;
+        among = behind_one entry later.among;
         parts = joined first later.text later.left at_others later.parts;
         spelled = single entry later.before first later.text plain spelled later.spelled;
         refer = ((entry_asked pool (place_of size rest) entry).passed.0 passed, later.refer);
@@ -174,7 +166,7 @@ module _ (size : ℕ) (pool : List PoolEntry) where
         more = later.more;
         text = first ++ later.text;
         left = later.left;
-        among = ap (λ (es : List PoolEntry). entry ∷ Second ∷ es) later.among;
+        among = behind_one entry (behind_one Second later.among);
         parts = joined first later.text later.left at_others later.parts;
         spelled = twofold entry later.before first later.text double spelled later.spelled;
         refer = ((entry_asked pool (place_of size rest) entry).passed.0 passed, (tt, later.refer));

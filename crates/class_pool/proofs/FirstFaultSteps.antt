@@ -1,5 +1,5 @@
 -- Steps of reading: each stops with exactly the faults that the relations by items have there.
-use Rattle.std.proofs.Common.{◌≡◌, ◌↔◌, ℕ, zero, suc, ◌+◌, ◌^◌, ◌<◌, nat_lt, Bool, true, false, if◌then◌else◌, List, [], ◌∷◌, ◌++◌, length, drop, Result, Ok, Err, inl, inr, refl, sym, ap, subst, ◌∙◌, length-append, arith}
+use Rattle.std.proofs.Common.{◌≡◌, ◌↔◌, ℕ, zero, suc, ◌+◌, ◌^◌, ◌<◌, nat_lt, Bool, true, false, if◌then◌else◌, List, [], ◌∷◌, ◌++◌, length, drop, Option, Some, None, Result, Ok, Err, inl, inr, refl, sym, ap, subst, ◌∙◌, length-append, arith}
 use Rattle.std.specs.Bool.{Decides}
 use Rattle.std.proofs.lemmas.Bool.{true≢false}
 use Rattle.std.proofs.lemmas.Bool.Decides.{Decides-ltb}
@@ -9,9 +9,9 @@ use Rattle.class_pool.specs.declared.faults.ClassCode.{ClassCode}
 use Rattle.class_pool.specs.declared.faults.ClassCode.TheVariants.{Truncated}
 use Rattle.class_pool.specs.declared.faults.ClassFault.{ClassFault}
 use Rattle.class_pool.specs.Items.{◌>>=◌, fault, passing, number, bytes_of, two_numbers, many}
-use Rattle.class_pool.specs.ClassGrammar.{u2, SpellsEach}
+use Rattle.class_pool.specs.Pool.{first_failing}
+use Rattle.class_pool.specs.ClassGrammar.{SpellsEach}
 use Rattle.class_pool.specs.FirstFaultItems.{IsCut, Never, Check, fails, passes, Either, Item, stops, behind, SpellsNumber, SpellsBytes, OneStops, SpellsMany}
-use Rattle.class_pool.proofs.GrammarNumbers as read_numbers
 use Rattle.class_pool.proofs.GrammarNumbers.{Takes, IsReadAs, by_answer, joined, split, number_read, number_again, SpellsTwo, two_read, two_again, bytes_read, bytes_again}
 use Rattle.class_pool.proofs.GrammarMany.{EachIsSpelled, EachIsRead, many_read, many_again}
 
@@ -94,6 +94,20 @@ passed_check holds goes f (passes _ more) = goes.again f more
 pub check : {A P : Type 0} {Next : ClassFault → Type 0} (code : ClassCode) (place : ℕ) {next : Result A ClassFault} (test : Bool) → Decides test P → (P → StopsBy next Next) → StopsBy (passing test code place next) (Check P code place Next)
 check code place true decides goes = let holds = decides.0 refl in record { found = λ f is. passes holds ((goes holds).found f is); again = passed_check holds (goes holds) }
 check {P = P} code place false decides goes = let refuted : P → ⊥ = λ holds. true≢false (sym (decides.1 holds)) in record { found = λ f is. fails refuted (cc); again = failed_check refuted }
+
+-- questions in order, each with its code, all at one place
+abbrev pub asked : Option ClassCode → ℕ → Result (Unit {0}) ClassFault
+asked None place = Ok tt
+asked (Some code) place = Err (fault code place)
+
+pub ask : {P : Type 0} {Next : ClassFault → Type 0} (test : Bool) (code : ClassCode) (place : ℕ) (more : List (Bool × ClassCode)) → Decides test P → (P → StopsBy (asked (first_failing more) place) Next)
+    → StopsBy (asked (first_failing ((test, code) ∷ more)) place) (λ f. Check P code place Next f)
+ask true code place more decides goes = check code place true decides goes
+ask false code place more decides goes = check code place false decides goes
+
+pub by_question : {P : Type 0} (o : Option ClassCode) → (o ≡ None → P) → ((code : ClassCode) → o ≡ Some code → P) → P
+by_question None passed failed = passed refl
+by_question (Some code) passed failed = failed code refl
 
 pub either_one : {A P : Type 0} {One Other : ClassFault → Type 0} {read : Result A ClassFault} → P → StopsBy read One → StopsBy read (Either P One Other)
 either_one {P = P} {One = One} {Other = Other} {read = read} holds first = record { found = λ f is. inl (holds, first.found f is); again = back }

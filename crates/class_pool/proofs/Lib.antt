@@ -22,3 +22,6 @@ pub mod KeptAgain
 pub mod GrammarBytes
 pub mod GrammarFits
 pub mod FirstFaultFields
+pub mod FirstFaultCode
+pub mod FirstFaultMethods
+pub mod FirstFaultClass
