@@ -1,5 +1,5 @@
 -- The whole class: reading stops with exactly the first fault by items.
-use Rattle.std.proofs.Common.{◌≡◌, ◌↔◌, ◌⊎◌, inl, inr, ℕ, ◌^◌, ◌<◌, ◌≤◌, nat_le, Bool, ◌&&◌, ◌==◌, List, [], length, Result, Ok, Err, refl, sym, ap, ◌∙◌}
+use Rattle.std.proofs.Common.{◌≡◌, ◌↔◌, ◌⊎◌, inl, inr, ℕ, ◌^◌, ◌<◌, ◌≤◌, nat_le, Bool, ◌&&◌, ◌==◌, List, [], length, Result, Err, refl, sym, ap, ◌∙◌}
 use Rattle.std.specs.Bool.{Decides}
 use Rattle.std.specs.List.{AllByRecursion}
 use Rattle.std.proofs.lemmas.Bool.{cases_Bool, leb-true, le-leb}
@@ -75,12 +75,12 @@ class_in_a_row file =
     elim (cases_Bool (magic.0 == 0xcafebabe)) [
       | inr other ↦ rw other refl
       | inl is ↦ rw is (
-        by_answer (number size 2 magic.1) (λ f failed. rw failed refl) (λ minor is2. rw is2 (
-        by_answer (number size 2 minor.1) (λ f failed. rw failed refl) (λ major is3. rw is3 (
-        elim (cases_Bool (is_known major.0)) [
-          | inr unknown ↦ rw unknown refl
-          | inl known ↦ rw known refl
-        ])))))
+          by_answer (number size 2 magic.1) (λ f failed. rw failed refl) (λ minor is2. rw is2 (
+          by_answer (number size 2 minor.1) (λ f failed. rw failed refl) (λ major is3. rw is3 (
+          elim (cases_Bool (is_known major.0)) [
+            | inr unknown ↦ rw unknown refl
+            | inl known ↦ rw known refl
+          ])))))
     ]))
 
 module _ (file : List ℕ) (all : AllByRecursion (λ byte. byte < 2 ^ 8) file) where

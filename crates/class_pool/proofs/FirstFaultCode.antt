@@ -1,5 +1,5 @@
 -- Code: reading it stops with exactly the faults of the relations by items.
-use Rattle.std.proofs.Common.{◌≡◌, ◌↔◌, ℕ, zero, suc, ◌+◌, ◌-◌, ◌*◌, ◌^◌, ◌<◌, ◌≤◌, nat_le, Bool, true, false, ◌&&◌, ◌||◌, nat_lt, ◌==◌, List, [], ◌∷◌, ◌++◌, length, Option, Some, None, Result, Ok, Err, refl, sym, ap, subst, ◌∙◌, inl, inr, arith}
+use Rattle.std.proofs.Common.{◌≡◌, ◌↔◌, ℕ, zero, suc, ◌+◌, ◌-◌, ◌*◌, ◌^◌, ◌<◌, ◌≤◌, nat_le, Bool, true, ◌&&◌, ◌||◌, nat_lt, ◌==◌, List, [], ◌∷◌, ◌++◌, length, Option, Some, None, Result, Ok, Err, refl, sym, ap, subst, ◌∙◌, inl, inr, arith}
 use Rattle.std.specs.Prelude.{pos, ◌+ℤ◌}
 use Rattle.std.specs.Bool.{Decides}
 use Rattle.std.specs.List.{AllByRecursion}
@@ -7,7 +7,9 @@ use Rattle.std.proofs.lemmas.Bool.{cases_Bool, leb-true, leb-false, le-leb, lt-l
 use Rattle.std.proofs.lemmas.Bool.Decides.{Decides-and, Decides-or, Decides-eqb, Decides-ltb, Decides-like, not_from_Decides}
 use Rattle.jo_insn.specs.declared.instructions.Insn.{Insn}
 use Rattle.jo_insn.specs.declared.instructions.InsnFault.{InsnFault}
+use Rattle.jo_insn.specs.declared.jumps.Placed.{Placed}
 use Rattle.jo_insn.specs.Instructions.{decoded}
+use Rattle.jo_insn.specs.Jumps.{is_start, jumps_of}
 use Rattle.jo_insn.proofs.DecodedMoves.{decoded-moves}
 use Rattle.jo_insn.proofs.Numbers.{AreBytes}
 use Rattle.class_pool.specs.declared.entries.PoolEntry.{PoolEntry}
@@ -18,11 +20,11 @@ use Rattle.class_pool.specs.declared.faults.ClassCode.TheVariants.{PoolIndex, Co
 use Rattle.class_pool.specs.declared.faults.ClassFault.{ClassFault}
 use Rattle.class_pool.specs.Items.{◌>>=◌, place_of, fault, passing, number, bytes_of, many}
 use Rattle.class_pool.specs.Pool.{first_failing}
-use Rattle.class_pool.specs.Code.{Placed, insn_fault, code_for, insns_from, insns_of, is_start, jumps_of, jumps_well, first_bad_jump, row_questions, row_fault, has_dims_that, dims_at}
+use Rattle.class_pool.specs.Code.{insn_fault, code_for, insns_from, insns_of, jumps_well, first_bad_jump, row_questions, row_fault, has_dims_that, dims_at}
 use Rattle.class_pool.specs.ClassOrder.{Spelled, read_row, skip_attributes, read_spelled, code_checked, read_code}
-use Rattle.class_pool.specs.ClassGrammar.{SpellsRow, AreInsnsFrom, IsStart, JumpsWell, IsRow, SpellsCode}
-use Rattle.class_pool.specs.FirstFaultItems.{IsCut, Never, Check}
-use Rattle.class_pool.specs.FirstFaultParts.{LeadsTo, here, onward, InsnFails, no_insn, names_wrong, IsInCode, Catches, RowStops, ChecksStop, an_insn, a_jump, a_row, CodeStops}
+use Rattle.class_pool.specs.ClassGrammar.{SpellsRow, IsStart, JumpsWell, IsRow, SpellsCode}
+use Rattle.class_pool.specs.FirstFaultItems.{IsCut}
+use Rattle.class_pool.specs.FirstFaultParts.{LeadsTo, here, onward, InsnFails, no_insn, names_wrong, IsInCode, RowStops, ChecksStop, an_insn, a_jump, a_row, CodeStops}
 use Rattle.class_pool.proofs.GrammarNumbers.{by_answer, SpellsTwo}
 use Rattle.class_pool.proofs.GrammarParts.{dims_decided}
 use Rattle.class_pool.proofs.GrammarInsns.{insns_of_grammar}

@@ -1,13 +1,12 @@
 -- The entries of the pool: reading them stops with exactly the faults of the relations by items, and else gives what they spell.
-use Rattle.std.proofs.Common.{◌≡◌, ℕ, zero, suc, ◌+◌, ◌^◌, ◌<◌, Bool, true, false, ◌==◌, if◌then◌else◌, List, [], ◌∷◌, ◌++◌, length, Option, Some, None, Result, Ok, Err, inl, inr, refl, sym, ap, subst, ◌∙◌, arith}
+use Rattle.std.proofs.Common.{◌≡◌, ℕ, zero, suc, ◌+◌, Bool, true, false, ◌==◌, if◌then◌else◌, List, [], ◌∷◌, ◌++◌, length, Option, Some, None, Result, Ok, Err, inl, inr, refl, sym, ap, subst, ◌∙◌, arith}
 use Rattle.std.proofs.lemmas.Bool.{cases_Bool, eqb-true}
 use Rattle.std.proofs.lemmas.Bool.Decides.{Decides-eqb, not_from_Decides}
-use Rattle.byteorder.specs.Endian.{twos_complement}
 use Rattle.jo_insn.proofs.Numbers.{AreBytes}
 use Rattle.jo_text.proofs.TestLaws.{mutf8_decided}
 use Rattle.class_pool.specs.declared.entries.PoolEntry.{PoolEntry}
-use Rattle.class_pool.specs.declared.entries.PoolEntry.TheVariants.{Second, Integer, Float, Long, Double, Class, Text, FieldRef, MethodRef, InterfaceMethodRef, NameAndType, MethodType, InvokeDynamic}
-use Rattle.class_pool.specs.declared.faults.ClassCode.TheVariants.{PoolTag, PoolIndex}
+use Rattle.class_pool.specs.declared.entries.PoolEntry.TheVariants.{Second}
+use Rattle.class_pool.specs.declared.faults.ClassCode.TheVariants.{PoolIndex}
 use Rattle.class_pool.specs.declared.faults.ClassFault.{ClassFault}
 use Rattle.class_pool.specs.Items.{◌>>=◌, place_of, fault}
 use Rattle.class_pool.specs.Pool.{is_double, read_utf8, read_one, read_pair, read_handle, read_indices, read_tagged, read_entry, owed_by, read_entries}
@@ -17,7 +16,7 @@ use Rattle.class_pool.specs.FirstFaultPool.{bytes_behind, Utf8Stops, OtherStops,
 use Rattle.class_pool.proofs.GrammarNumbers.{Takes, by_answer, joined, split}
 use Rattle.class_pool.proofs.Many.{with_front, with_first}
 use Rattle.class_pool.proofs.GrammarPool.{entry_read, entry_again}
-use Rattle.class_pool.proofs.FirstFaultSteps.{StopsBy, Reads, never, only, then_ok, part, check, either_one, either_other, cut, number_reads, bytes_reads, two_reads, cut_join, err_same, fails_first, goes_on, bytes_left}
+use Rattle.class_pool.proofs.FirstFaultSteps.{StopsBy, Reads, never, only, then_ok, part, check, either_one, either_other, cut, number_reads, bytes_reads, two_reads, cut_join, goes_on}
 
 -- ---- an entry
 

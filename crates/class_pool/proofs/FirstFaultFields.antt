@@ -1,33 +1,31 @@
 -- Indices, heads, attributes and fields: reading stops with exactly the faults of the relations by items.
-use Rattle.std.proofs.Common.{◌≡◌, ◌↔◌, ◌⊎◌, ℕ, zero, suc, ◌+◌, ◌-◌, ◌^◌, ◌<◌, Bool, true, false, ◌&&◌, ◌==◌, if◌then◌else◌, List, [], ◌∷◌, ◌++◌, length, Option, Some, None, Result, Ok, Err, refl, sym, ap, subst, ◌∙◌, inl, inr, append_assoc, length-append, arith}
+use Rattle.std.proofs.Common.{◌≡◌, ◌↔◌, ℕ, zero, suc, ◌+◌, ◌-◌, Bool, true, false, ◌&&◌, ◌==◌, if◌then◌else◌, List, [], ◌∷◌, ◌++◌, length, Option, Some, None, Result, Ok, Err, refl, sym, ap, subst, ◌∙◌, append_assoc, length-append, arith}
 use Rattle.std.specs.Prelude.{IsSomeAnd, codes}
 use Rattle.std.specs.Bool.{Decides}
-use Rattle.std.proofs.lemmas.Bool.{false_from_ne_true, cases_Bool}
+use Rattle.std.proofs.lemmas.Bool.{false_from_ne_true}
 use Rattle.std.proofs.lemmas.List.{append-nil}
 use Rattle.std.proofs.lemmas.Bool.Decides.{Decides-eqb, Decides-and, not_from_Decides}
 use Rattle.jo_insn.proofs.Numbers.{AreBytes}
 use Rattle.jo_text.specs.Tests.{is_member_name}
 use Rattle.jo_text.proofs.TestLaws.{field_decided, method_decided, member_decided}
 use Rattle.class_pool.specs.declared.entries.PoolEntry.{PoolEntry}
-use Rattle.class_pool.specs.declared.classes.FieldInfo.{FieldInfo}
 use Rattle.class_pool.specs.declared.classes.MemberKind.{MemberKind}
 use Rattle.class_pool.specs.declared.classes.MemberKind.TheVariants.{Field, Method}
 use Rattle.class_pool.specs.declared.faults.ClassCode.TheVariants.{PoolIndex, BadDescriptor, CodeBounds}
 use Rattle.class_pool.specs.declared.faults.ClassFault.{ClassFault}
 use Rattle.class_pool.specs.Items.{◌>>=◌, place_of, passing, number, bytes_of, many}
 use Rattle.class_pool.specs.Pool.{entry_at, utf8_at, is_text, is_text_that}
-use Rattle.class_pool.specs.Code.{dims_of, has_dims_that, dims_at}
+use Rattle.class_pool.specs.Code.{has_dims_that, dims_at}
 use Rattle.class_pool.specs.ClassOrder
 use Rattle.jo_insn.specs.AccessFlags.{has_flag, static_flag}
-use Rattle.class_pool.specs.ClassOrder.{class_index, text_index, fits_kind, read_head, attribute_head, skip_attribute, skip_attributes, is_named, fits_constant, field_attribute, field_attributes, read_field}
-use Rattle.class_pool.specs.ClassGrammar.{u2, SpellsEach, Attribute, SpellsAttribute, SpellsClassIndex, IsConstantValue, HasConstant, no_constant, not_constant, constant_value, SpellsField}
-use Rattle.class_pool.specs.FirstFaultItems.{IsCut, Check, Either, OneStops}
-use Rattle.class_pool.specs.FirstFaultPool.{HasText}
-use Rattle.class_pool.specs.FirstFaultParts.{SpellsTextIndex, TextIndexStops, ClassIndexStops, IsDescOf, SpellsHead, HeadStops, AttributeHead, AttributeStops, Attributes, IsConstant, ConstantStops, FieldAttributeStops, BehindConstants, FieldStops}
-use Rattle.class_pool.proofs.GrammarNumbers.{Takes, Yields, IsReadAs, by_answer, ends, fails, then_read, when, either, reads_more, joined, split, step, pass, number_read, number_again, bytes_read, bytes_again}
+use Rattle.class_pool.specs.ClassOrder.{class_index, text_index, fits_kind, read_head, skip_attribute, skip_attributes, is_named, fits_constant, field_attribute, field_attributes, read_field}
+use Rattle.class_pool.specs.ClassGrammar.{SpellsEach, Attribute, SpellsAttribute, SpellsClassIndex, IsConstantValue, HasConstant, no_constant, not_constant, constant_value, SpellsField}
+use Rattle.class_pool.specs.FirstFaultItems.{OneStops}
+use Rattle.class_pool.specs.FirstFaultParts.{SpellsTextIndex, TextIndexStops, ClassIndexStops, IsDescOf, SpellsHead, HeadStops, AttributeStops, Attributes, IsConstant, ConstantStops, FieldAttributeStops, BehindConstants, FieldStops}
+use Rattle.class_pool.proofs.GrammarNumbers.{IsReadAs, by_answer, ends, then_read, when, either, reads_more, joined, split, step, pass, number_read, number_again, bytes_read, bytes_again}
 use Rattle.class_pool.proofs.GrammarPool.{text_decided, there_decided}
-use Rattle.class_pool.proofs.GrammarParts.{named_decided, dims_decided, class_index_read, class_index_again, text_index_read, text_index_again, head_read, head_again, SpellsAttributeHead, attribute_head_read, attribute_of, attribute_again, field_read, field_again}
-use Rattle.class_pool.proofs.FirstFaultSteps.{StopsBy, Reads, never, reads_as, then_ok, part, check, regroup, either_one, either_other, cut, number_reads, bytes_reads, many_reads, err_same, err_inside, fails_first, goes_on, bytes_left}
+use Rattle.class_pool.proofs.GrammarParts.{named_decided, dims_decided, class_index_read, class_index_again, text_index_read, text_index_again, head_read, head_again, attribute_head_read, attribute_of, attribute_again, field_read, field_again}
+use Rattle.class_pool.proofs.FirstFaultSteps.{StopsBy, Reads, never, reads_as, then_ok, part, check, regroup, either_one, either_other, cut, number_reads, many_reads, err_same, fails_first, goes_on, bytes_left}
 
 kind_decided : (kind : MemberKind) (text : List ℕ) → Decides (fits_kind kind text) (IsDescOf kind text)
 kind_decided Field text = field_decided text

@@ -1,33 +1,33 @@
 -- Methods and the codes among their attributes: reading stops with exactly the faults of the relations by items.
-use Rattle.std.proofs.Common.{◌≡◌, ◌↔◌, ◌⊎◌, inl, inr, ℕ, zero, suc, ◌+◌, ◌-◌, ◌<◌, Bool, true, false, ◌&&◌, ◌||◌, not, if◌then◌else◌, ◌==◌, nat_lt, List, [], ◌∷◌, ◌++◌, length, Option, Some, None, Result, Ok, Err, refl, sym, ap, subst, ◌∙◌, append_assoc, arith}
+use Rattle.std.proofs.Common.{◌≡◌, ◌↔◌, inl, inr, ℕ, zero, suc, ◌+◌, ◌-◌, Bool, true, false, ◌&&◌, ◌||◌, not, if◌then◌else◌, ◌==◌, nat_lt, List, [], ◌∷◌, ◌++◌, length, Option, Some, None, Result, Ok, Err, refl, sym, ap, subst, ◌∙◌, append_assoc, arith}
 use Rattle.std.specs.Prelude.{codes}
 use Rattle.std.specs.Bool.{Decides}
 use Rattle.std.proofs.Math.Bool.{or-true}
 use Rattle.std.proofs.lemmas.Bool.{cases_Bool, false_from_ne_true, eqb-true, or_cases, or_parts, true≢false}
 use Rattle.std.proofs.lemmas.Bool.Decides.{Decides-or, Decides-ltb, not_from_Decides}
 use Rattle.std.proofs.lemmas.List.{append-nil}
+use Rattle.jo_insn.specs.AccessFlags.{has_flag, native_flag, abstract_flag, synchronized_flag}
 use Rattle.jo_insn.proofs.Numbers.{AreBytes}
 use Rattle.class_pool.specs.declared.entries.PoolEntry.{PoolEntry}
 use Rattle.class_pool.specs.declared.classes.CodeInfo.{CodeInfo}
 use Rattle.class_pool.specs.declared.classes.MethodInfo.{MethodInfo}
 use Rattle.class_pool.specs.declared.classes.MemberKind.TheVariants.{Method}
 use Rattle.class_pool.specs.declared.faults.Cut.TheVariants.{WideType, Synchronized}
-use Rattle.class_pool.specs.declared.faults.ClassCode.{ClassCode}
 use Rattle.class_pool.specs.declared.faults.ClassCode.TheVariants.{CodeBounds, Unsupported}
 use Rattle.class_pool.specs.declared.faults.ClassFault.{ClassFault}
 use Rattle.class_pool.specs.Items.{◌>>=◌, place_of, number, bytes_of}
 use Rattle.class_pool.specs.Pool.{utf8_at, first_failing}
 use Rattle.class_pool.specs.Code.{is_wide_desc}
-use Rattle.class_pool.specs.ClassOrder.{has_flag, native_flag, abstract_flag, synchronized_flag, text_index, is_named, read_code, method_attributes, method_questions, first_code, read_method}
+use Rattle.class_pool.specs.ClassOrder.{text_index, is_named, read_code, method_attributes, method_questions, first_code, read_method}
 use Rattle.class_pool.specs.ClassGrammar.{SpellsEach, Attribute, SpellsAttribute, HasCodes, no_code, not_code, code_attribute, codes_in, HasBody, SpellsMethod, u4}
-use Rattle.class_pool.specs.FirstFaultItems.{IsCut, Either, OneStops}
-use Rattle.class_pool.specs.FirstFaultParts.{CodeStops, MethodAttributeStops, BehindCodes, SpellsCodes, HasCode, HasOneBody, MethodStops}
+use Rattle.class_pool.specs.FirstFaultItems.{OneStops}
+use Rattle.class_pool.specs.FirstFaultParts.{MethodAttributeStops, BehindCodes, SpellsCodes, HasOneBody, MethodStops}
 use Rattle.class_pool.proofs.Many.{with_front}
 use Rattle.class_pool.proofs.GrammarNumbers.{Takes, IsReadAs, by_answer, ends, then_read, either, joined, split, step, bytes_read, bytes_again}
 use Rattle.class_pool.proofs.GrammarParts.{named_decided, attribute_head_read, attribute_of, attribute_again}
 use Rattle.class_pool.proofs.GrammarCode.{code_read, code_again}
 use Rattle.class_pool.proofs.GrammarMethods.{method_read, method_again}
-use Rattle.class_pool.proofs.FirstFaultSteps.{StopsBy, Reads, never, reads_as, then_ok, part, ask, asked, by_question, either_one, either_other, cut, number_reads, fails_first, goes_on, bytes_left}
+use Rattle.class_pool.proofs.FirstFaultSteps.{Reads, never, reads_as, then_ok, part, ask, asked, by_question, either_one, either_other, cut, number_reads, fails_first, goes_on, bytes_left}
 use Rattle.class_pool.proofs.FirstFaultFields.{text_index_reads, head_reads}
 use Rattle.class_pool.proofs.FirstFaultCode.{code_reads}
 

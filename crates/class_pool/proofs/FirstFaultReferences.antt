@@ -1,5 +1,5 @@
 -- What the entries of the pool refer to, and the whole pool: reading stops with exactly the faults of the relations by items.
-use Rattle.std.proofs.Common.{◌≡◌, ◌↔◌, ℕ, zero, suc, ◌+◌, ◌-◌, ◌^◌, ◌<◌, Bool, true, false, ◌==◌, not, List, [], ◌∷◌, ◌++◌, length, drop, Option, Some, None, Result, Ok, Err, refl, sym, ap, subst, ◌∙◌, arith}
+use Rattle.std.proofs.Common.{◌≡◌, ◌↔◌, ℕ, suc, ◌-◌, Bool, true, false, ◌==◌, not, List, [], ◌∷◌, ◌++◌, length, drop, Option, Some, None, Result, Ok, Err, refl, sym, ap, subst, ◌∙◌, arith}
 use Rattle.std.specs.Prelude.{IsSomeAnd}
 use Rattle.std.specs.Bool.{Decides}
 use Rattle.std.specs.List.{AllByRecursion}
@@ -16,13 +16,12 @@ use Rattle.class_pool.specs.declared.faults.ClassCode.{ClassCode}
 use Rattle.class_pool.specs.declared.faults.ClassCode.TheVariants.{PoolIndex, BadDescriptor}
 use Rattle.class_pool.specs.declared.faults.ClassFault.{ClassFault}
 use Rattle.class_pool.specs.Items.{place_of, fault}
-use Rattle.class_pool.specs.Pool.{entry_at, utf8_at, desc_at, is_class, is_name_and_type, read_entries, questions, member_questions, first_failing, entry_size, reference_fault, unless_fault, read_pool_from, pool_of}
+use Rattle.class_pool.specs.Pool.{entry_at, utf8_at, desc_at, is_double, is_class, is_name_and_type, read_entries, questions, member_questions, first_failing, entry_size, reference_fault, unless_fault, read_pool_from, pool_of}
 use Rattle.class_pool.specs.ClassGrammar.{SpellsEntry, SpellsEntries, no_entry, single, twofold, IsClassEntry, RefersWell}
 use Rattle.class_pool.specs.FirstFaultItems.{Never, Check}
-use Rattle.class_pool.specs.FirstFaultPool.{HasText, IsNameAndTypeEntry, NamesWell, ReferenceStops, ReferencesStop, EntriesStop, an_entry, no_room, SpellsIndices, PoolStops, SpellsPool}
+use Rattle.class_pool.specs.FirstFaultPool.{IsNameAndTypeEntry, NamesWell, ReferenceStops, ReferencesStop, EntriesStop, an_entry, no_room, SpellsIndices, PoolStops, SpellsPool}
 use Rattle.class_pool.proofs.GrammarNumbers.{joined, split}
-use Rattle.class_pool.proofs.GrammarPool.{text_decided, there, there_decided, pool_read, pool_again}
-use Rattle.class_pool.proofs.Many.{with_front}
+use Rattle.class_pool.proofs.GrammarPool.{text_decided, there_decided, pool_read, pool_again}
 use Rattle.class_pool.proofs.FirstFaultSteps.{StopsBy, Reads, never, part, check, asked, ask, by_question, regroup_check, number_reads, bytes_left}
 use Rattle.class_pool.proofs.FirstFaultEntries.{entry_reads, Answers, entries_answer, behind_entries}
 
@@ -133,8 +132,35 @@ module _ (size : ℕ) (pool : List PoolEntry) where
         next = (entry_asked pool (place_of size rest) entry).stopped.found f (rw failed (ap Err here));
       }
 
-  behind_one : (entry : PoolEntry) {these others : List PoolEntry} → these ≡ others → entry ∷ these ≡ entry ∷ others
-  behind_one entry same = ap (λ (es : List PoolEntry). entry ∷ es) same
+  -- behind an entry that refers well
+  module _ (entry : PoolEntry) (more : List PoolEntry) (first others rest left : List ℕ) (f : ClassFault) (parts : rest ≡ first ++ (others ++ left)) (spelled : SpellsEntry entry first) (refers : RefersWell pool entry) where
+    behind_single : is_double entry ≡ false → ReferencesStop size pool more (others ++ left) f → ReferencesStop size pool (entry ∷ more) rest f
+    behind_single plain later = record {
+      before = entry ∷ later.before;
+      entry = later.entry;
+      more = later.more;
+      text = first ++ later.text;
+      left = later.left;
+      among = ap (λ (es : List PoolEntry). entry ∷ es) later.among;
+      parts = joined first later.text later.left parts later.parts;
+      spelled = single entry later.before first later.text plain spelled later.spelled;
+      refer = (refers, later.refer);
+      next = later.next;
+    }
+
+    behind_double : is_double entry ≡ true → ReferencesStop size pool more (others ++ left) f → ReferencesStop size pool (entry ∷ Second ∷ more) rest f
+    behind_double double later = record {
+      before = entry ∷ Second ∷ later.before;
+      entry = later.entry;
+      more = later.more;
+      text = first ++ later.text;
+      left = later.left;
+      among = ap (λ (es : List PoolEntry). entry ∷ Second ∷ es) later.among;
+      parts = joined first later.text later.left parts later.parts;
+      spelled = twofold entry later.before first later.text double spelled later.spelled;
+      refer = (refers, (tt, later.refer));
+      next = later.next;
+    }
 
   references_found : {these : List PoolEntry} {text : List ℕ} → SpellsEntries these text → (rest left : List ℕ) → rest ≡ text ++ left → (f : ClassFault) → reference_fault size pool rest these ≡ Some f → ReferencesStop size pool these rest f
   unfolding reference_fault
@@ -143,35 +169,13 @@ module _ (size : ℕ) (pool : List PoolEntry) where
       (λ passed.
       let at_others = split first others left parts refl in
       let after = behind_entry entry rest first (others ++ left) at_others spelled in
-      let later = references_found behind (others ++ left) left refl f (rw (passed, after) at is) in record {
-        before = entry ∷ later.before;
-        entry = later.entry;
-        more = later.more;
-        text = first ++ later.text;
-        left = later.left;
-        among = behind_one entry later.among;
-        parts = joined first later.text later.left at_others later.parts;
-        spelled = single entry later.before first later.text plain spelled later.spelled;
-        refer = ((entry_asked pool (place_of size rest) entry).passed.0 passed, later.refer);
-        next = later.next;
-      })
+      behind_single entry more first others rest left f at_others spelled ((entry_asked pool 0 entry).passed.0 passed) plain (references_found behind (others ++ left) left refl f (rw (passed, after) at is)))
       (λ code failed. fault_here entry more rest code f failed is)
   references_found (twofold entry more first others double spelled behind) rest left parts f is = by_question (first_failing (questions pool entry))
       (λ passed.
       let at_others = split first others left parts refl in
       let after = behind_entry entry rest first (others ++ left) at_others spelled in
-      let later = references_found behind (others ++ left) left refl f (rw (passed, after) at is) in record {
-        before = entry ∷ Second ∷ later.before;
-        entry = later.entry;
-        more = later.more;
-        text = first ++ later.text;
-        left = later.left;
-        among = behind_one entry (behind_one Second later.among);
-        parts = joined first later.text later.left at_others later.parts;
-        spelled = twofold entry later.before first later.text double spelled later.spelled;
-        refer = ((entry_asked pool (place_of size rest) entry).passed.0 passed, (tt, later.refer));
-        next = later.next;
-      })
+      behind_double entry more first others rest left f at_others spelled ((entry_asked pool 0 entry).passed.0 passed) double (references_found behind (others ++ left) left refl f (rw (passed, after) at is)))
       (λ code failed. fault_here entry (Second ∷ more) rest code f failed is)
 
   references_again : {before : List PoolEntry} {text : List ℕ} → SpellsEntries before text → (rest left : List ℕ) (entry : PoolEntry) (more : List PoolEntry) (f : ClassFault) → rest ≡ text ++ left → AllByRecursion (RefersWell pool) before

@@ -1,5 +1,5 @@
 -- Where indices, attributes, fields, codes and methods stop first (JVM Specification SE 8, 4.5 to 4.7), behind this pool.
-use Rattle.std.specs.Prelude.{◌≡◌, ◌⊎◌, ℕ, ◌+◌, ◌-◌, ◌*◌, ◌^◌, ◌<◌, Bool, true, false, List, ◌∷◌, ◌++◌, length, Option, Some, None, Result, Ok, Err, IsSomeAnd, codes, pos}
+use Rattle.std.specs.Prelude.{◌≡◌, ◌⊎◌, ℕ, ◌+◌, ◌-◌, ◌*◌, ◌^◌, ◌<◌, Bool, true, false, List, ◌∷◌, ◌++◌, length, Option, Some, None, Ok, Err, IsSomeAnd, codes, pos}
 use Rattle.std.specs.List.{AllByRecursion}
 use Rattle.jo_text.specs.Descriptors.{IsMemberName, IsFieldDesc, IsMethodDesc}
 use Rattle.jo_insn.specs.declared.instructions.Insn.{Insn}
@@ -21,17 +21,17 @@ use Rattle.class_pool.specs.Code.{is_wide_desc, dims_of, insn_fault, code_for}
 use Rattle.jo_insn.specs.AccessFlags.{has_flag, static_flag, synchronized_flag, native_flag}
 use Rattle.class_pool.specs.ClassOrder.{fits_constant}
 use Rattle.class_pool.specs.ClassGrammar.{u2, SpellsEach, Attribute, SpellsAttribute, HasConstant, AreInsnsFrom, IsStart, JumpsWell, IsRow, SpellsRow, HasCodes, codes_in, HasBody}
-use Rattle.class_pool.specs.FirstFaultItems.{IsCut, Never, Check, Either, Item, Number, Bytes, OneStops, SpellsMany, Many, Counted}
-use Rattle.class_pool.specs.FirstFaultPool.{HasText}
+use Rattle.class_pool.specs.FirstFaultItems.{IsCut, Never, Check, Either, Item, Number, Bytes, OneStops, Many, Counted}
+use Rattle.class_pool.specs.FirstFaultPool.{IsTextIndex}
 
 -- ---- indices
 
 -- the index of a text
 abbrev pub SpellsTextIndex : List PoolEntry → ℕ → List ℕ → Type 0
-SpellsTextIndex pool index text = (text ≡ u2 index) × (index < 2 ^ 16) × HasText pool index
+SpellsTextIndex pool index text = (text ≡ u2 index) × (index < 2 ^ 16) × IsTextIndex pool index
 
 abbrev pub TextIndexStops : ℕ → List PoolEntry → List ℕ → ClassFault → Type 0
-TextIndexStops size pool rest f = Number size 2 rest (λ index _. Check (HasText pool index) PoolIndex (place_of size rest) Never) f
+TextIndexStops size pool rest f = Number size 2 rest (λ index _. Check (IsTextIndex pool index) PoolIndex (place_of size rest) Never) f
 
 abbrev pub TextIndex : ℕ → List PoolEntry → List ℕ → (ℕ → List ℕ → ClassFault → Type 0) → ClassFault → Type 0
 TextIndex size pool rest Next f = Item (SpellsTextIndex pool) (TextIndexStops size pool) rest Next f

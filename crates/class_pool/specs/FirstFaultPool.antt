@@ -1,5 +1,5 @@
 -- Where the constant pool stops first (JVM Specification SE 8, 4.4): first all of its entries, then what they refer to.
-use Rattle.std.specs.Prelude.{◌≡◌, ℕ, ◌+◌, ◌-◌, ◌^◌, ◌<◌, Bool, true, ◌==◌, if◌then◌else◌, List, ◌∷◌, ◌++◌, length, Option, Some, None, IsSomeAnd}
+use Rattle.std.specs.Prelude.{◌≡◌, ℕ, ◌+◌, ◌-◌, ◌^◌, ◌<◌, true, ◌==◌, if◌then◌else◌, List, ◌∷◌, ◌++◌, length, Option, Some, None, IsSomeAnd}
 use Rattle.std.specs.List.{AllByRecursion}
 use Rattle.jo_text.specs.Mutf8.{IsMutf8}
 use Rattle.class_pool.specs.declared.entries.PoolEntry.{PoolEntry}
@@ -51,8 +51,8 @@ pub data EntriesStop (size n : ℕ) (rest : List ℕ) (f : ClassFault) : Type 0 
 
 -- ---- what an entry refers to
 
-abbrev pub HasText : List PoolEntry → ℕ → Type 0
-HasText pool index = IsSomeAnd (utf8_at pool index) (λ _. Unit {0})
+abbrev pub IsTextIndex : List PoolEntry → ℕ → Type 0
+IsTextIndex pool index = IsSomeAnd (utf8_at pool index) (λ _. Unit {0})
 
 abbrev pub IsNameAndTypeEntry : Option PoolEntry → Type 0
 IsNameAndTypeEntry (Some (NameAndType name desc)) = Unit {0}
@@ -61,12 +61,12 @@ IsNameAndTypeEntry _ = ⊥
 -- The indices of an entry are those of entries of the right kinds. A NameAndType without a Utf8 as its descriptor is a
 -- wrong descriptor of the entry that refers to it (this project's own).
 abbrev pub NamesWell : List PoolEntry → PoolEntry → Type 0
-NamesWell pool (Class name) = HasText pool name
-NamesWell pool (Text text) = HasText pool text
+NamesWell pool (Class name) = IsTextIndex pool name
+NamesWell pool (Text text) = IsTextIndex pool text
 NamesWell pool (FieldRef class type) = IsClassEntry (entry_at pool class) × IsNameAndTypeEntry (entry_at pool type)
 NamesWell pool (MethodRef class type) = IsClassEntry (entry_at pool class) × IsNameAndTypeEntry (entry_at pool type)
 NamesWell pool (InterfaceMethodRef class type) = IsClassEntry (entry_at pool class) × IsNameAndTypeEntry (entry_at pool type)
-NamesWell pool (NameAndType name desc) = HasText pool name × HasText pool desc
+NamesWell pool (NameAndType name desc) = IsTextIndex pool name × IsTextIndex pool desc
 NamesWell pool _ = Unit {0}
 
 -- indices come before names and descriptors; the place is that of the entry's tag
