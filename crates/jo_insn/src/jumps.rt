@@ -80,3 +80,36 @@ pub fn targets_of(alloc: Global, code: &[u8], placed: &Placed) -> Result<Vec<i64
     }
     Ok(targets)
 }
+
+#[cfg(test)]
+mod tests {
+    use super::*;
+    use crate::decode;
+    use std::test::Fail;
+
+    /// A tableswitch of 0 to 1 at 1, padded to 4, a goto at 24 and a lookupswitch of the key 5 at 27, padded to 28.
+    #[rattlefmt::skip]
+    const CODE: [u8; 44] = [
+        0x03, 0xaa, 0, 0,
+        0, 0, 0, 23, 0, 0, 0, 0, 0, 0, 0, 1, 0, 0, 0, 26, 0xff, 0xff, 0xff, 0xff,
+        0xa7, 0xff, 0xe8,
+        0xab, 0xff, 0xff, 0xff, 0xe5, 0, 0, 0, 1, 0, 0, 0, 5, 0, 0, 0, 16,
+    ];
+
+    fn targets_at(alloc: Global, pc: u32) -> Result<Vec<i64>, Fail> {
+        match decode(&CODE, pc) {
+            Ok((insn, next)) => Ok(targets_of(alloc, &CODE, &Placed { pc, insn, next })?),
+            Err(_) => Err(Fail::from("an instruction")),
+        }
+    }
+
+    #[test]
+    fn targets_are_found(rt: HostRuntime) -> Result<(), Fail> {
+        let alloc = rt.alloc();
+        assert_eq!(rt; targets_at(alloc, 0)?.as_slice(), [].as_slice());
+        assert_eq!(rt; targets_at(alloc, 1)?.as_slice(), [24, 27, 0].as_slice());
+        assert_eq!(rt; targets_at(alloc, 24)?.as_slice(), [0].as_slice());
+        assert_eq!(rt; targets_at(alloc, 27)?.as_slice(), [0, 43].as_slice());
+        Ok(())
+    }
+}

@@ -62,3 +62,32 @@ pub fn starts_of(alloc: Global, size: usize, insns: &[Placed]) -> Result<PcMarks
     }
     Ok(starts)
 }
+
+#[cfg(test)]
+mod tests {
+    use super::*;
+    use crate::Insn;
+    use std::test::Fail;
+
+    #[test]
+    fn starts_are_marked(rt: HostRuntime) -> Result<(), Fail> {
+        let insn = Insn::Plain(0);
+        let insns = [
+            Placed {
+                pc: 0,
+                insn,
+                next: 2,
+            },
+            Placed {
+                pc: 2,
+                insn,
+                next: 3,
+            },
+        ];
+        let starts = starts_of(rt.alloc(), 3, &insns)?;
+        for (pc, wanted) in [(-1, false), (0, true), (1, false), (2, true), (3, false)] {
+            assert_eq!(rt; starts.is_marked(pc), wanted, "{pc}");
+        }
+        Ok(())
+    }
+}

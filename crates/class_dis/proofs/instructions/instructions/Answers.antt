@@ -1,4 +1,4 @@
-use Rattle.std.proofs.Common.{◌<◌, ◌-◌, length, [], ◌∷◌, sym, ◌∙◌, arith}
+use Rattle.std.proofs.Common.{◌<◌, ◌-◌, length, sym, ◌∙◌, arith}
 use Rattle.jo_insn.proofs.DecodedMoves.{decoded-moves}
 use Rattle.class_dis.proofs.InsnSteps.{begins, takes, is_all}
 use Rattle.class_dis.proofs.instructions.instructions.Goals as goal

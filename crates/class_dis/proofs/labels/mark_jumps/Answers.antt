@@ -1,4 +1,4 @@
-use Rattle.std.proofs.Common.{List, Bool, ap, ◌∙◌}
+use Rattle.std.proofs.Common.{List, ap, ◌∙◌}
 use Rattle.std.specs.Prelude.{ℤ}
 use Rattle.jo_insn.specs.Marks.{marked}
 use Rattle.class_dis.proofs.InsnSteps.{past, split}

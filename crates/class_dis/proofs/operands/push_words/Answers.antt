@@ -1,4 +1,4 @@
-use Rattle.std.proofs.Common.{ℕ, drop, arith}
+use Rattle.std.proofs.Common.{arith}
 use Rattle.std.proofs.lemmas.List.{length-drop}
 use Rattle.jo_insn.proofs.SwitchTables.{pairs_end}
 use Rattle.class_dis.proofs.SwitchSteps.{lookup_targets}

@@ -1,5 +1,4 @@
-use Rattle.std.proofs.Common.{◌≡◌, [], ◌∷◌, Some, None, refl, arith}
-use Rattle.class_pool.specs.Fitting.{FitsClass}
+use Rattle.std.proofs.Common.{refl, arith}
 use Rattle.class_write.proofs.tests.class.Goals as goal
 
 pub returns : goal.returns
@@ -19,10 +18,13 @@ returns c =
       few_fields = omega arith;
       fields = (record { flags = omega arith; name = omega arith; desc = omega arith; constant = tt }, tt);
       few_methods = omega arith;
-      methods = (record {
-        flags = omega arith;
-        name = omega arith;
-        desc = omega arith;
-        code = (record { max_stack = omega arith; max_locals = omega arith; bytes = omega arith; few_rows = omega arith; rows = (record { start = omega arith; end = omega arith; handler = omega arith; catch_type = omega arith }, tt) }, (3, refl));
-      }, tt);
+      methods = (
+        record {
+          flags = omega arith;
+          name = omega arith;
+          desc = omega arith;
+          code = (record { max_stack = omega arith; max_locals = omega arith; bytes = omega arith; few_rows = omega arith; rows = (record { start = omega arith; end = omega arith; handler = omega arith; catch_type = omega arith }, tt) }, (3, refl));
+        },
+        tt,
+      );
     })
