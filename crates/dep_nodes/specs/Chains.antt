@@ -1,7 +1,7 @@
 -- Valid chains over any edges between nodes (after Horwitz, Reps and Binkley 1990; the automaton and `pass` are this
 -- project's own). An automaton keeps the list of open calls: a return that finds an open call closes the last one, which
 -- must be its own, and one that finds none goes on to a caller; a heap or a fork edge forgets the open calls.
-use Rattle.std.specs.Prelude.{◌≡◌, ◌≢◌, ℕ, Bool, true, false, ◌&&◌, ◌==◌, List, [], ◌∷◌, Option, Some, None, if◌then◌else◌}
+use Rattle.std.specs.Prelude.{◌≡◌, ◌≢◌, Bool, true, false, ◌&&◌, ◌==◌, List, [], ◌∷◌, Option, Some, None, if◌then◌else◌}
 use Rattle.std.specs.Str.{bytes_eq}
 use Rattle.std.specs.List.{AllByRecursion}
 use Rattle.dep_nodes.specs.declared.kinds.NodeKind.{NodeKind}

@@ -1,5 +1,5 @@
 //! Walks of a graph to its criteria, found backwards along its edges.
-ghost use Rattle.std.specs.Prelude.{◌≡◌, ◌↔◌, ◌+◌, ◌++◌, ◌∷◌, [], OnOk, ◌<◌, ◌^◌, ℕ, List as Items, length, replicate, Contains, IsTrue, IfOk, IfSome, IfNone, true, false, slice_get, slice_index};
+ghost use Rattle.std.specs.Prelude.{◌≡◌, ◌↔◌, ◌+◌, ◌++◌, ◌∷◌, [], OnOk, ◌<◌, ◌^◌, ℕ, List as Items, length, replicate, Contains, IsTrue, IfOk, IfSome, IfNone, true, false};
 ghost use Rattle.std.specs.Bool.{OnFalse, OnTrue};
 ghost use Rattle.dep_nodes.specs.Graphs.{EdgeAt, IsWalk, WalksTo, walk_end};
 ghost use Rattle.flow_graph.specs.Slices.{mark_at, is_marked, IsMarkedAt, distance_of, unmarked_count, IsMarking, OnlyGrows, IsClosedAt, IsClosed, HasEdgesInside, AreInside, HasNoStep, AreMarkedAs, FitsGraph, IsMarked, IsSliceOf, IsFirstWith};
