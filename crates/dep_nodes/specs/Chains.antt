@@ -1,8 +1,9 @@
 -- Valid chains over any edges between nodes (after Horwitz, Reps and Binkley 1990; the automaton and `pass` are this
 -- project's own). An automaton keeps the list of open calls: a return that finds an open call closes the last one, which
 -- must be its own, and one that finds none goes on to a caller; a heap or a fork edge forgets the open calls.
-use Rattle.std.specs.Prelude.{◌≡◌, ◌≢◌, ℕ, Bool, true, false, ◌&&◌, ◌==◌, List, [], ◌∷◌, Option, Some, None, if◌then◌else◌}
+use Rattle.std.specs.Prelude.{◌≡◌, ◌≢◌, Bool, true, false, ◌&&◌, ◌==◌, List, [], ◌∷◌, Option, Some, None, if◌then◌else◌}
 use Rattle.std.specs.Str.{bytes_eq}
+use Rattle.std.specs.List.{AllByRecursion}
 use Rattle.dep_nodes.specs.declared.kinds.NodeKind.{NodeKind}
 use Rattle.dep_nodes.specs.declared.kinds.NodeKind.TheVariants.{Call as CallNode, RetVal, RetKind, Throw, Arg as ArgNode}
 use Rattle.dep_nodes.specs.declared.kinds.EdgeKind.{EdgeKind}
@@ -108,3 +109,12 @@ end_of from (link ∷ links) = end_of link.to links
 -- a valid chain leads from one node to another
 abbrev pub HasChain : (Node → EdgeKind → Node → Type 0) → Node → Node → Type 0
 HasChain E from to = (links : List Link) × IsValidChain E from links × (end_of from links ≡ to)
+
+-- ---- chains of edges alone
+
+abbrev pub IsEdge : Link → Type 0
+IsEdge link = (kind : EdgeKind) × (link.word ≡ Edge kind)
+
+-- a valid chain without a `pass` step leads from one node to another
+abbrev pub HasEdgeChain : (Node → EdgeKind → Node → Type 0) → Node → Node → Type 0
+HasEdgeChain E from to = (links : List Link) × IsValidChain E from links × (end_of from links ≡ to) × AllByRecursion IsEdge links

@@ -4,6 +4,7 @@
 mod chains;
 mod graphs;
 mod kinds;
+pub mod laws;
 
 pub use chains::{Chain, Step, Word};
 pub use graphs::{Edge, Graph, NodeName, SiteList};

@@ -3,7 +3,7 @@
 -- at least one edge leads from it.
 use Rattle.std.specs.Prelude.{◌≢◌}
 use Rattle.dependence.specs.declared.flow.Place.{Place}
-use Rattle.dependence.specs.Paths.{Path}
+use Rattle.jo_ids.specs.Path.{Path}
 
 -- The definition of a place at node d arrives at a node: there is a path of at least one edge, with no writer of the
 -- place strictly between. It grows at its end.

@@ -12,7 +12,7 @@ use Rattle.dependence.specs.declared.flow.Place.{Place}
 use Rattle.dependence.specs.declared.flow.Place.TheVariants.{Local, Stack}
 use Rattle.dep_nodes.specs.declared.kinds.NodeKind.{NodeKind}
 use Rattle.dep_nodes.specs.declared.kinds.NodeKind.TheVariants.{Entry, Exit, Instr, Call, RetVal}
-use Rattle.dependence.specs.Paths.{Path}
+use Rattle.jo_ids.specs.Path.{Path}
 use Rattle.dependence.specs.Dependence.{Reaches, Controls}
 
 -- the node at which a thread stands whose pc this is

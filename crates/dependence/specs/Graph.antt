@@ -1,6 +1,6 @@
 -- The dependence graph of a program (after Horwitz, Reps and Binkley 1990; its nodes, edges and rules are this project's
 -- own), in its part for plain code: one instance, no object.
-use Rattle.std.specs.Prelude.{◌≡◌, ℕ, Bool, true, false, List, [], Option, Some, None}
+use Rattle.std.specs.Prelude.{◌≡◌, ℕ, Bool, true, false, [], Option, Some, None}
 use Rattle.jo_prog.specs.declared.operations.Operation.TheVariants.{Return}
 use Rattle.jo_prog.specs.declared.program.Program.{Program}
 use Rattle.jo_prog.specs.declared.labels.Label.{Label}

@@ -1,4 +1,3 @@
-pub mod Paths
 pub mod Dependence
 pub mod Flow
 pub mod Graph

@@ -13,7 +13,7 @@ use Rattle.dep_nodes.specs.declared.chains.Word.TheVariants.{Edge as AnEdge, Pas
 use Rattle.dep_nodes.specs.declared.graphs.Graph.{Graph}
 use Rattle.dep_nodes.specs.Nodes.{Node, node_named, CallSite}
 use Rattle.dep_nodes.specs.Graphs.{edge, EdgeAt, GraphEdge, HasNoFork, graph_node, IsWalk, walk_end, WalksTo, link_to, link_of, links_of}
-use Rattle.dep_nodes.specs.Chains.{adv, Matched, arrived, onwards, IsMatched, IsPass, StepsOn, Link, IsChainFrom, IsValidChain, end_of, HasChain}
+use Rattle.dep_nodes.specs.Chains.{adv, Matched, arrived, onwards, StepsOn, Link, IsChainFrom, IsValidChain, end_of, HasChain}
 use Rattle.dependence.specs.Graph.{DependenceEdge, used, passed, shown, controlled, ended, next_input}
 use Rattle.dependence.specs.GraphData.{IsDependenceGraph}
 use Rattle.flow_graph.specs.Slices.{HasEdgesInside}

@@ -14,7 +14,8 @@ use Rattle.jo_prog.proofs.TypingPaths.{typed_by-next}
 use Rattle.dependence.specs.declared.flow.Place.{Place}
 use Rattle.dep_nodes.specs.declared.kinds.NodeKind.{NodeKind}
 use Rattle.dep_nodes.specs.declared.kinds.NodeKind.TheVariants.{Entry, Exit, Instr, Call, RetVal}
-use Rattle.dependence.specs.Paths.{stays, steps}
+use Rattle.jo_ids.specs.Path.{stays, goes}
+use Rattle.jo_ids.proofs.PathLemmas.{path_more}
 use Rattle.dependence.specs.Flow.{node_of, node_at, falls_through, FlowEdge, begins, skips, falls, leaves, calls, arrives, IsFlowNode, FlowPath, FlowReaches}
 use Rattle.dependence.specs.Dependence.{one, more}
 
@@ -116,16 +117,12 @@ LineAt program m code (Call p) = (s : Shape) × Arrives program m code p s × (n
 LineAt program m code (RetVal p) = (s : Shape) × Arrives program m code p s × (node_at program m p ≡ Call p)
 LineAt program m code _ = ⊥
 
-path_snoc : (program : Program) (m : ℕ) (a b c : NodeKind) → FlowPath program m a b → FlowEdge program m b c → FlowPath program m a c
-path_snoc program m a b c (stays n) e = steps n c c e (stays c)
-path_snoc program m a b c (steps x y z f path) e = steps x y c f (path_snoc program m y z c path e)
-
 pub flow_on : (program : Program) (m : ℕ) (a b c : NodeKind) → FlowPath program m a b → FlowEdge program m b c → FlowPath program m a c
-flow_on program m a b c path e = path_snoc program m a b c path e
+flow_on program m a b c path e = path_more path e
 
 pub reaches_flow : (program : Program) (m : ℕ) (v : Place) (d n : NodeKind) → IsFlowNode program m d → FlowReaches program m v d n → IsFlowNode program m n
-reaches_flow program m v d n flow (one x e w) = path_snoc program m Entry d x flow e
-reaches_flow program m v d n flow (more x y r not e) = path_snoc program m Entry x y (reaches_flow program m v d x flow r) e
+reaches_flow program m v d n flow (one x e w) = path_more flow e
+reaches_flow program m v d n flow (more x y r not e) = path_more (reaches_flow program m v d x flow r) e
 
 module _ (program : Program) (m : ℕ) (code : Code) (typed : IsTypedCode program m code) where
   pub arrive_next : (p next : ℕ) (s : Shape) (operation : Operation) → Arrives program m code p s → operation_at program m p ≡ Some (operation, next) → (operation ≡ Return → ⊥) → (t : Shape) × Arrives program m code next t
@@ -162,7 +159,7 @@ module _ (program : Program) (m : ℕ) (code : Code) (typed : IsTypedCode progra
 
   path_line : (a b : NodeKind) → LineAt program m code a → FlowPath program m a b → LineAt program m code b
   path_line a b line (stays n) = line
-  path_line a b line (steps x y z e path) = path_line y z (line_step x y line e) path
+  path_line a b line (goes x y z e path) = path_line y z (line_step x y line e) path
 
   -- flow nodes are on the line
   pub flow_line : (n : NodeKind) → IsFlowNode program m n → LineAt program m code n

@@ -13,7 +13,8 @@ use Rattle.dependence.specs.declared.flow.Place.{Place}
 use Rattle.dep_nodes.specs.declared.kinds.NodeKind.{NodeKind}
 use Rattle.dep_nodes.specs.declared.kinds.NodeKind.TheVariants.{Entry, Exit, Instr, Call, RetVal, RetKind, Throw, Catch, Poll, XPoll, Arg, Param, Kind, Value, Thrown}
 use Rattle.dep_nodes.specs.declared.kinds.EdgeKind.{EdgeKind}
-use Rattle.dependence.specs.Paths.{stays, steps}
+use Rattle.jo_ids.specs.Path.{stays, goes}
+use Rattle.jo_ids.proofs.PathLemmas.{path_on}
 use Rattle.dependence.specs.Flow.{node_of, node_at, falls_through, FlowEdge, begins, skips, falls, leaves, calls, arrives, IsFlowNode, Writes, ArgumentPlace, FlowPath, FlowReaches, FlowControls}
 use Rattle.dependence.specs.Dependence.{one, more}
 use Rattle.dep_nodes.specs.Nodes.{Instance, Node, node}
@@ -158,11 +159,11 @@ entry_edge program m a b (arrives p next k y found native e) is = cc
 
 exit_path : (program : Program) (m : ℕ) (a b : NodeKind) → FlowPath program m a b → a ≡ Exit → b ≡ Exit
 exit_path program m a b (stays n) is = is
-exit_path program m a b (steps x y z e path) is = absurd (no_way_out program m y (subst (λ k. FlowEdge program m k y) is e))
+exit_path program m a b (goes x y z e path) is = absurd (no_way_out program m y (subst (λ k. FlowEdge program m k y) is e))
 
 from_entry : (program : Program) (m : ℕ) (a b : NodeKind) → FlowPath program m a b → a ≡ Entry → (b ≡ Entry) ⊎ ((b ≡ Exit) ⊎ FlowPath program m (node_at program m 0) b)
 from_entry program m a b (stays n) is = inl is
-from_entry program m a b (steps x y z e path) is =
+from_entry program m a b (goes x y z e path) is =
     elim (entry_edge program m x y e is) [
       | inl begun ↦ inr (inr (subst (λ k. FlowPath program m k z) begun path))
       | inr out ↦ inr (inl (exit_path program m y z path out))
@@ -194,12 +195,8 @@ entry_controls program m n flow no_entry no_exit =
 abbrev pub root : Labels → Instance
 root labels = record { method = labels.entry; context = [] }
 
-flow_along : (program : Program) (m : ℕ) (a b c : NodeKind) → FlowPath program m a b → FlowPath program m b c → FlowPath program m a c
-flow_along program m a b c path (stays n) = path
-flow_along program m a b c path (steps x y z e rest) = flow_along program m a y z (flow_on program m a x y path e) rest
-
 pub controlled_flow : (program : Program) (m : ℕ) (b n : NodeKind) → IsFlowNode program m b → FlowControls program m b n → IsFlowNode program m n
-controlled_flow program m b n flow c = flow_along program m Entry c.first n (flow_on program m Entry b c.first flow c.leads) c.path
+controlled_flow program m b n flow c = path_on (flow_on program m Entry b c.first flow c.leads) c.path
 
 cursor_node : (program : Program) (labels : Labels) (source : ℕ) (a : Node) → UsesCursor program labels source a → IsNode program labels a
 cursor_node program labels source a (at_result i p s reached flow callee is) = of_flow i (RetVal p) reached flow

@@ -23,7 +23,7 @@ use Rattle.dep_nodes.specs.declared.graphs.NodeName.{NodeName}
 use Rattle.dep_nodes.specs.declared.graphs.Edge.{Edge}
 use Rattle.flow_graph.specs.declared.sdg.Definitions.{Definitions}
 use Rattle.flow_graph.specs.declared.sdg.SourceResult.{SourceResult}
-use Rattle.dependence.specs.Paths.{stays}
+use Rattle.jo_ids.specs.Path.{stays}
 use Rattle.dependence.specs.Flow.{node_at, FlowEdge, IsFlowNode, reads_of, writes_of, Reads, Writes, by_instr, by_result, ArgumentPlace, FlowReaches, FlowControls}
 use Rattle.dependence.specs.Dependence.{one}
 use Rattle.dep_nodes.specs.Nodes.{Node, node}

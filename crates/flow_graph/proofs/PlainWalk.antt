@@ -25,7 +25,7 @@ use Rattle.dep_nodes.specs.declared.graphs.Edge.{Edge}
 use Rattle.flow_graph.specs.declared.sdg.Definitions.{Definitions}
 use Rattle.flow_graph.specs.declared.sdg.SourceResult.{SourceResult}
 use Rattle.flow_graph.specs.declared.sdg.Builder.{Builder}
-use Rattle.dependence.specs.Paths.{stays, steps}
+use Rattle.jo_ids.specs.Path.{stays, goes}
 use Rattle.dependence.specs.Flow.{node_of, node_at, falls_through, FlowEdge, begins, skips, falls, leaves, calls, arrives, IsFlowNode, writes_of, Reads, Writes, by_instr, by_result, FlowPath, FlowReaches}
 use Rattle.dependence.specs.Dependence.{one, more}
 use Rattle.dep_nodes.specs.Nodes.{Node, node}
@@ -99,7 +99,7 @@ into_entry program m x n (arrives p next k y found native e) is = false≢true (
 
 path_to_entry : (program : Program) (m : ℕ) (a b : NodeKind) → FlowPath program m a b → b ≡ Entry → a ≡ Entry
 path_to_entry program m a b (stays n) is = is
-path_to_entry program m a b (steps x y z e path) is = absurd (into_entry program m x y e (path_to_entry program m y z path is))
+path_to_entry program m a b (goes x y z e path) is = absurd (into_entry program m x y e (path_to_entry program m y z path is))
 
 -- nothing but Entry leads to the first instruction
 into_start : (program : Program) (m : ℕ) (x n : NodeKind) → FlowEdge program m x n → n ≡ node_at program m 0 → x ≡ Entry
@@ -179,7 +179,7 @@ module _ (program : Program) (labels : Labels) (code : Code) (typed : IsTypedCod
   start_built =
       let m = labels.entry in
       let entry_flow : IsFlowNode program m Entry = stays Entry in
-      let exit_flow : IsFlowNode program m Exit = steps Entry Exit Exit skips (stays Exit) in
+      let exit_flow : IsFlowNode program m Exit = goes Entry Exit Exit skips (stays Exit) in
       let a = name_of m Entry None in
       let b = name_of m Exit None in
       let c = name_of m Kind None in
@@ -256,7 +256,7 @@ walked_start program labels b plain short low start =
       arrives = at_start;
       height_is = refl;
       behind = λ p s arr below. absurd (omega arith);
-      flow = steps Entry (node_at program m 0) (node_at program m 0) (begins (node_at program m 0) refl) (stays (node_at program m 0));
+      flow = goes Entry (node_at program m 0) (node_at program m 0) (begins (node_at program m 0) refl) (stays (node_at program m 0));
       built = built;
       defined = record {
         right = λ v j e. absurd (no_definition b.definitions plain.code.max_locals plain.code.max_stack start.locals start.stack v j e);

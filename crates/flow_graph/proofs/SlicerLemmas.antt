@@ -11,8 +11,8 @@ use Rattle.dep_nodes.specs.declared.chains.Word.TheVariants.{Edge as AnEdge}
 use Rattle.dep_nodes.specs.declared.graphs.Graph.{Graph}
 use Rattle.flow_graph.specs.declared.slicer.Mark.{Mark}
 use Rattle.flow_graph.specs.declared.slicer.Mark.TheVariants.{Unmarked, Criterion, Next}
-use Rattle.dep_nodes.specs.Graphs.{edge, IsWalk, WalksTo, walk_end}
-use Rattle.flow_graph.specs.Slices.{mark_at, is_marked, IsMarkedAt, distance_of, LeadsOn, IsStepFrom, is_unmarked, unmarked_count, IsMarking, OnlyGrows, IsClosedAt, AreMarkedAs, HasNoStep}
+use Rattle.dep_nodes.specs.Graphs.{EdgeAt, IsWalk, WalksTo, walk_end}
+use Rattle.flow_graph.specs.Slices.{mark_at, is_marked, IsMarkedAt, distance_of, LeadsOn, IsStepFrom, is_unmarked, unmarked_count, IsMarking, OnlyGrows, IsClosedAt, IsClosed, AreMarkedAs, HasNoStep}
 
 -- ---- one more mark
 
@@ -57,7 +57,7 @@ lead_on-set graph marks i n m (Next step distance) free leads =
     (leads.0, ap is_marked same ∙ leads.1, rw same leads.2)
 
 -- one more mark, at the begin of an edge whose end is marked
-pub marking-set : (graph : Graph) (marks : List Mark) (from to distance : ℕ) (kind : EdgeKind) → IsMarking graph marks → Contains graph.edges (edge from kind to) → from < length graph.nodes
+pub marking-set : (graph : Graph) (marks : List Mark) (from to distance : ℕ) (kind : EdgeKind) → IsMarking graph marks → EdgeAt graph from kind to → from < length graph.nodes
     → IsMarkedAt marks to → is_marked (mark_at marks from) ≡ false → distance ≡ distance_of (mark_at marks to)
     → IsMarking graph (set marks from (Next (record { word = AnEdge kind; to = to }) (distance + 1)))
 marking-set graph marks from to distance kind marking of_graph inside end free far =
@@ -124,13 +124,13 @@ walk_by graph marks marking zero n below marked = absurd (omega arith)
 walk_by graph marks marking (suc d) n below marked = walk_by_mark graph marks d n (mark_at marks n) (walk_by graph marks marking d) refl below marked (marking.lead_on n)
 
 -- where the marks are closed under edges, a walk to a marked node begins at one
-marked_by_walk : (graph : Graph) (marks : List Mark) → ((e : Edge) → Contains graph.edges e → IsClosedAt marks e) → (n : ℕ) (steps : List Step) → IsWalk graph n steps → IsMarkedAt marks (walk_end n steps) → IsMarkedAt marks n
+marked_by_walk : (graph : Graph) (marks : List Mark) → IsClosed graph marks → (n : ℕ) (steps : List Step) → IsWalk graph n steps → IsMarkedAt marks (walk_end n steps) → IsMarkedAt marks n
 marked_by_walk graph marks closed n [] walk marked = marked
 marked_by_walk graph marks closed n (step ∷ steps) walk marked =
-    closed (edge n walk.0.0 step.to) walk.0.2 (marked_by_walk graph marks closed step.to steps walk.1 marked)
+    closed n step.to walk.0.0 walk.0.2 (marked_by_walk graph marks closed step.to steps walk.1 marked)
 
 -- the marks of all criteria, grown until they are closed, are the slice
-pub slice_from : (graph : Graph) (criteria : List ℕ) (old new : List Mark) → AreMarkedAs old criteria → IsMarking graph new → OnlyGrows old new → ((e : Edge) → Contains graph.edges e → IsClosedAt new e)
+pub slice_from : (graph : Graph) (criteria : List ℕ) (old new : List Mark) → AreMarkedAs old criteria → IsMarking graph new → OnlyGrows old new → IsClosed graph new
     → AreMarkedAs new criteria × ((n : ℕ) → IsMarkedAt new n ↔ WalksTo graph criteria n)
 slice_from graph criteria old new was marking grows closed =
     let stays : (n : ℕ) → Contains criteria n → mark_at new n ≡ Criterion =

@@ -58,6 +58,10 @@ pub record OnlyGrows (old new : List Mark) : Type 0 where
 abbrev pub IsClosedAt : List Mark → Edge → Type 0
 IsClosedAt marks e = IsMarkedAt marks e.to → IsMarkedAt marks e.from
 
+-- the marks are closed at each edge of the graph
+abbrev pub IsClosed : Graph → List Mark → Type 0
+IsClosed graph marks = (i j : ℕ) (kind : EdgeKind) → EdgeAt graph i kind j → IsMarkedAt marks j → IsMarkedAt marks i
+
 -- the edges are between nodes of the graph
 abbrev pub HasEdgesInside : Graph → Type 0
 HasEdgesInside graph = (i j : ℕ) (kind : EdgeKind) → EdgeAt graph i kind j → (i < length graph.nodes) × (j < length graph.nodes)

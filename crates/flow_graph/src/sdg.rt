@@ -1,5 +1,5 @@
 //! Builds the dependence graph of a program of plain code, by one walk over its line of instructions.
-ghost use Rattle.std.specs.Prelude.{◌≡◌, ◌≢◌, ℕ, ◌+◌, ◌-◌, ◌*◌, ◌<◌, ◌≤◌, ◌^◌, List as Items, [], ◌∷◌, ◌++◌, length, Contains, IfOk, OnOk, true, replicate, slice_index_or};
+ghost use Rattle.std.specs.Prelude.{◌≡◌, ℕ, ◌+◌, ◌-◌, ◌*◌, ◌<◌, ◌^◌, [], ◌∷◌, ◌++◌, length, Contains, IfOk, OnOk, true, slice_index_or};
 ghost use Rattle.dependence.specs.Flow.{reads_of, writes_of};
 ghost use Rattle.dependence.specs.declared.flow.Place.{Place as APlace};
 ghost use Rattle.jo_prog.specs.declared.program.Code.{Code};
@@ -9,7 +9,7 @@ ghost use Rattle.dep_nodes.specs.Graphs.{edge};
 ghost use Rattle.dependence.specs.Graph.{is_source, is_sink};
 ghost use Rattle.jo_prog.specs.PlainCode.{IsPlainProgram};
 ghost use Rattle.dependence.specs.GraphData.{IsDependenceGraph};
-ghost use Rattle.flow_graph.specs.Building.{definition_of, HasPlace, SameSizes, AreWritten, name_of, use_edges, uses_edges, out_edges, control_edges, heap_edges, AddsInstruction, AddsSource, AddsSink, height_after, is_call, is_return, IsStart, HasShortCode};
+ghost use Rattle.flow_graph.specs.Building.{definition_of, HasPlace, AreWritten, name_of, use_edges, uses_edges, out_edges, control_edges, heap_edges, AddsInstruction, AddsSource, AddsSink, height_after, is_call, is_return, IsStart, HasShortCode};
 
 use dep_nodes::{Edge, EdgeKind, Graph, NodeKind, NodeName, SiteList};
 use dependence::flow::Place;

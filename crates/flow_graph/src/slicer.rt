@@ -1,9 +1,8 @@
 //! Walks of a graph to its criteria, found backwards along its edges.
-ghost use Rattle.std.specs.Prelude.{◌≡◌, ◌↔◌, ◌+◌, ◌++◌, ◌∷◌, [], OnOk, ◌<◌, ◌^◌, ℕ, List as Items, length, replicate, Contains, IsTrue, IfOk, IfSome, IfNone, true, false, slice_get, slice_index};
+ghost use Rattle.std.specs.Prelude.{◌≡◌, ◌↔◌, ◌+◌, ◌++◌, ◌∷◌, [], OnOk, ◌<◌, ◌^◌, ℕ, List as Items, length, replicate, Contains, IsTrue, IfOk, IfSome, IfNone, true, false};
 ghost use Rattle.std.specs.Bool.{OnFalse, OnTrue};
-ghost use Rattle.dep_nodes.specs.declared.graphs.Edge.{Edge as AnEdge};
-ghost use Rattle.dep_nodes.specs.Graphs.{IsWalk, WalksTo, walk_end};
-ghost use Rattle.flow_graph.specs.Slices.{mark_at, is_marked, IsMarkedAt, distance_of, unmarked_count, IsMarking, OnlyGrows, IsClosedAt, HasEdgesInside, AreInside, HasNoStep, AreMarkedAs, FitsGraph, IsMarked, IsSliceOf, IsFirstWith};
+ghost use Rattle.dep_nodes.specs.Graphs.{EdgeAt, IsWalk, WalksTo, walk_end};
+ghost use Rattle.flow_graph.specs.Slices.{mark_at, is_marked, IsMarkedAt, distance_of, unmarked_count, IsMarking, OnlyGrows, IsClosedAt, IsClosed, HasEdgesInside, AreInside, HasNoStep, AreMarkedAs, FitsGraph, IsMarked, IsSliceOf, IsFirstWith};
 
 use dep_nodes::{Chain, Edge, Graph, Step, Word};
 use jo_ids::{List, Memory, NodeId};
@@ -62,7 +61,7 @@ fn mark_of(marks: &[Mark], node: NodeId) -> Mark
 fn follow_back(graph: &Graph, marks: &mut Vec<Mark>, edge: Edge) -> bool
     requires small { length graph.now.nodes < 2 ^ 32 }
     requires marking { IsMarking graph.now marks.old.items }
-    requires of_graph { Contains graph.now.edges edge }
+    requires of_graph { EdgeAt graph.now edge.from edge.kind edge.to }
     requires inside { edge.from < length graph.now.nodes }
     ensures marking { IsMarking graph.now marks.new.items }
     ensures grows { OnlyGrows marks.old.items marks.new.items }
@@ -91,8 +90,7 @@ fn follow_all_back(graph: &Graph, marks: &mut Vec<Mark>) -> bool
     ensures marking { IsMarking graph.now marks.new.items }
     ensures grows { OnlyGrows marks.old.items marks.new.items }
     ensures news { OnTrue result (unmarked_count marks.new.items < unmarked_count marks.old.items) }
-    ensures closed { OnFalse result
-        ((e : AnEdge) → Contains graph.now.edges e → IsClosedAt marks.new.items e) }
+    ensures closed { OnFalse result (IsClosed graph.now marks.new.items) }
 {
     let mut news = false;
     for edge in graph.edges.as_slice() {
@@ -110,7 +108,7 @@ fn spread(graph: &Graph, marks: &mut Vec<Mark>)
     requires inside { HasEdgesInside graph.now }
     ensures marking { IsMarking graph.now marks.new.items }
     ensures grows { OnlyGrows marks.old.items marks.new.items }
-    ensures closed { (e : AnEdge) → Contains graph.now.edges e → IsClosedAt marks.new.items e }
+    ensures closed { IsClosed graph.now marks.new.items }
 {
     loop {
         if !follow_all_back(graph, marks) {

@@ -1,6 +1,6 @@
 //! The graph of the worked program `int i = get(); int s = secret(); show(i + 1);`, where `secret` is a high source, `get`
 //! a low one and `show` a low sink, and two walks in it.
-ghost use Rattle.std.specs.Prelude.{◌≡◌, ◌<◌, ◌^◌, ◌++◌, ◌∷◌, [], ℕ, length, IfOk, IfSome, OnOk, Contains, slice_get, Some, codes, replicate};
+ghost use Rattle.std.specs.Prelude.{◌≡◌, ◌<◌, ◌^◌, ◌++◌, ◌∷◌, [], length, IfOk, IfSome, OnOk, Some, replicate};
 ghost use Rattle.jo_prog.specs.Worked.{native, member, worked_code, worked_class, worked_program, worked_labels};
 ghost use Rattle.jo_prog.specs.PreludeClasses.{object_class};
 ghost use Rattle.flow_graph.specs.Slices.{HasEdgesInside};

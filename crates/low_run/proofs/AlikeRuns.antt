@@ -25,7 +25,7 @@ use Rattle.dependence.specs.declared.flow.Place.{Place}
 use Rattle.dependence.specs.declared.flow.Place.TheVariants.{Local, Stack}
 use Rattle.dep_nodes.specs.declared.kinds.NodeKind.{NodeKind}
 use Rattle.dep_nodes.specs.declared.kinds.NodeKind.TheVariants.{Entry, Instr, Call, RetVal, Arg}
-use Rattle.dependence.specs.Flow.{node_of, node_at, falls_through, FlowEdge, falls, calls, arrives as arrives_at, IsFlowNode, Writes, by_instr, by_result, ArgumentPlace, of_argument}
+use Rattle.dependence.specs.Flow.{node_of, node_at, falls_through, FlowEdge, falls, calls, arrives as arrives_at, IsFlowNode, by_instr, by_result, ArgumentPlace, of_argument}
 use Rattle.dep_nodes.specs.Nodes.{node}
 use Rattle.dependence.specs.Graph.{at_entry, UsesCursor, at_result, label_at, is_source, is_sink, shown}
 use Rattle.flow_graph.proofs.PlainCalls.{result_place}

@@ -26,7 +26,7 @@ use Rattle.jo_prog.specs.Constants.{takes_arguments, arguments_address}
 use Rattle.jo_prog.specs.Machine.{Frame, State, Stepped, step, first_locals, first_frame, start}
 use Rattle.dep_nodes.specs.declared.kinds.NodeKind.{NodeKind}
 use Rattle.dep_nodes.specs.declared.kinds.NodeKind.TheVariants.{Entry, Call, RetVal}
-use Rattle.dependence.specs.Paths.{stays, steps}
+use Rattle.jo_ids.specs.Path.{stays, goes}
 use Rattle.dependence.specs.Flow.{node_at, begins, IsFlowNode}
 use Rattle.dep_nodes.specs.Nodes.{node}
 use Rattle.dependence.specs.Graph.{at_entry, label_at}
@@ -149,7 +149,7 @@ start_together program labels Relevant plain =
       shape = shape_at_start code;
       arrives = at_start;
       plain = plain.plain;
-      flow = steps Entry n n (begins n refl) (stays n);
+      flow = goes Entry n n (begins n refl) (stays n);
       cursors_alike = record { count = refl; same = λ source pc uses relevant. refl };
       locals_alike = record {
         count = length-replicate code.max_locals None ∙ sym (length-replicate code.max_locals Unset);

@@ -6,6 +6,7 @@ use Rattle.jo_prog.specs.declared.labels.Label.{Label}
 use Rattle.jo_prog.specs.declared.labels.Labels.{Labels}
 use Rattle.jo_prog.specs.declared.program.Program.{Program}
 use Rattle.jo_prog.specs.Labels.{label_of, reaches, misses, shown_at, brings, lets_out}
+use Rattle.jo_prog.specs.PlainCode.{IsPlainProgram}
 use Rattle.jo_prog.specs.Program.{callee_at, operation_at}
 use Rattle.dep_nodes.specs.declared.kinds.NodeKind.{NodeKind}
 use Rattle.dep_nodes.specs.declared.kinds.NodeKind.TheVariants.{Entry, Call, RetVal, Arg}
@@ -14,7 +15,7 @@ use Rattle.dep_nodes.specs.declared.graphs.Graph.{Graph}
 use Rattle.dep_nodes.specs.declared.chains.Chain.{Chain}
 use Rattle.jo_prog.specs.declared.operations.Operation.{Operation}
 use Rattle.jo_prog.specs.declared.operations.Operation.TheVariants.{Constant, Load, Store, Add, Subtract, InvokeStatic, Return, Other}
-use Rattle.dependence.specs.Paths.{stays, steps}
+use Rattle.jo_ids.specs.Path.{stays, goes}
 use Rattle.dependence.specs.Flow.{IsFlowNode, FlowEdge, begins, skips, falls, leaves, calls, arrives, node_at, node_of, FlowPath}
 use Rattle.dep_nodes.specs.Nodes.{Instance, Node, node, node_named}
 use Rattle.dep_nodes.specs.Graphs.{graph_name, graph_node, HasName, links_of, walk_end, WalksTo}
@@ -22,10 +23,12 @@ use Rattle.dep_nodes.specs.Chains.{Link, end_of}
 use Rattle.dependence.specs.Graph.{IsNode, of_flow, of_argument, of_kind, of_thrown, IsReached, label_at}
 use Rattle.dependence.specs.GraphData.{resolved_of, IsDependenceGraph}
 use Rattle.flow_graph.proofs.ChainWalks.{walk_is_valid, walk_ends, chain_is_walk, chain_of_program, no_fork}
-use Rattle.low_run.specs.Verdict.{label_resolved, Hides, Shows, IsHidden, IsObserved, IllegalChain, Clean, CleanForAll}
+use Rattle.low_run.specs.Verdict.{label_resolved, Hides, Shows, IsHidden, IsObserved, IllegalChain, Clean, CleanForAll, HasCleanGraph}
 use Rattle.low_run.specs.ByEdges.{HiddenByEdges, result, ObservedByEdges, call, let_out, IllegalByEdges, AllCleanByEdges}
+use Rattle.low_run.specs.Security.{Secure}
 use Rattle.low_run.specs.Sides.{is_kind_on, is_on, hidden_nodes, observed_nodes, IsForbiddenWalk}
 use Rattle.low_run.specs.declared.refusals.Side.TheVariants.{Hidden, Observed}
+use Rattle.low_run.proofs.CleanRuns.{clean_secure}
 use Rattle.low_run.proofs.Sides.{passes_at, number_in}
 
 -- ---- nodes of a graph
@@ -118,7 +121,7 @@ no_edge program m a b pc k (arrives p q i n found native at) e = no_argument_at 
 
 no_path : (program : Program) (m : ℕ) (a b : NodeKind) (pc k : ℕ) → FlowPath program m a b → b ≡ Arg pc k → (a ≡ Arg pc k → ⊥) → ⊥
 no_path program m a b pc k (stays n) e free = free e
-no_path program m a c pc k (steps x y z first path) e free = no_path program m y z pc k path e (no_edge program m x y pc k first)
+no_path program m a c pc k (goes x y z first path) e free = no_path program m y z pc k path e (no_edge program m x y pc k first)
 
 no_argument : (program : Program) (m : ℕ) (n : NodeKind) (pc k : ℕ) → IsFlowNode program m n → n ≡ Arg pc k → ⊥
 no_argument program m n pc k flow e = no_path program m Entry n pc k flow e (λ h. absurd (cc))
@@ -265,6 +268,10 @@ module _ (program : Program) (labels : Labels) (graph : Graph) (whole : IsDepend
   pub illegal_both : (from : Node) (links : List Link) → IllegalChain graph labels observer from links ↔ IllegalByEdges program labels observer from links
   illegal_both from links = (illegal_by_edges from links, illegal_in_graph from links)
 
-pub clean_by_edges : (program : Program) (labels : Labels) (graph : Graph) → IsDependenceGraph program labels graph → CleanForAll graph labels → AllCleanByEdges program labels
+clean_by_edges : (program : Program) (labels : Labels) (graph : Graph) → IsDependenceGraph program labels graph → CleanForAll graph labels → AllCleanByEdges program labels
 clean_by_edges program labels graph whole clean observer among from links illegal =
     (clean observer among).no_chain from links ((illegal_both program labels graph whole observer from links).1 illegal)
+
+-- a plain program with a clean graph is secure
+pub clean_graph_secure : (program : Program) (labels : Labels) → IsPlainProgram program labels → HasCleanGraph program labels → Secure program labels
+clean_graph_secure program labels plain (graph, whole, clean) = clean_secure program labels plain (clean_by_edges program labels graph whole clean)

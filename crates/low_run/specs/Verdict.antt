@@ -13,6 +13,7 @@ use Rattle.dep_nodes.specs.declared.graphs.Graph.{Graph}
 use Rattle.dep_nodes.specs.Nodes.{Node}
 use Rattle.dep_nodes.specs.Graphs.{GraphEdge, HasName, HasNoFork}
 use Rattle.dep_nodes.specs.Chains.{Link, IsValidChain, end_of}
+use Rattle.dependence.specs.GraphData.{IsDependenceGraph}
 use Rattle.chain_report.specs.Report.{chain_text}
 
 -- the label of the method that a node's instruction names
@@ -61,3 +62,13 @@ pub record Reports (program : Program) (labels : Labels) (graph : Graph) (text :
   pub links : List Link
   pub illegal : IllegalChain graph labels observer from links
   pub text_is : text ≡ chain_text program labels observer from links
+
+-- ---- the verdict on a program
+
+-- the program's dependence graph is clean for each observer
+abbrev pub HasCleanGraph : Program → Labels → Type 0
+HasCleanGraph program labels = (graph : Graph) × IsDependenceGraph program labels graph × CleanForAll graph labels
+
+-- the text reports on the program's dependence graph
+abbrev pub HasReport : Program → Labels → List ℕ → Type 0
+HasReport program labels text = (graph : Graph) × IsDependenceGraph program labels graph × Reports program labels graph text

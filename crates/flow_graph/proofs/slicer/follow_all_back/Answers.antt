@@ -1,6 +1,7 @@
 use Rattle.std.proofs.Common.{◌≡◌, ◌+◌, ◌++◌, ◌∷◌, [], take, Contains, sym, ap, subst, ◌∙◌, arith}
 use Rattle.std.proofs.lemmas.List.{take_more, take_all}
 use Rattle.std.proofs.lemmas.Bool.{OnFalse_from, OnTrue_at, OnFalse_at, MatchBool-at_false}
+use Rattle.dep_nodes.specs.Graphs.{edge}
 use Rattle.flow_graph.proofs.SlicerLemmas.{IsFollowed, followed-news, followed-quiet}
 use Rattle.flow_graph.proofs.slicer.follow_all_back.Goals as goal
 use Rattle.flow_graph.proofs.slicer.follow_all_back.Goals.{then-follow_back, else-follow_back}
@@ -32,4 +33,4 @@ pub returns-clause-closed : goal.returns-clause-closed
 returns-clause-closed c =
     let es = c.as_slice-edge-items.result.now in
     let all : take c.loop-edge.edge-index es ≡ c.args.graph.now.edges = take_all c.loop-edge.edge-index es (omega arith) ∙ c.as_slice-edge-items.ensures in
-    OnFalse_from c.loop-edge.news _ (λ quiet. λ e is. (MatchBool-at_false _ _ quiet c.loop-edge.invariant.2).1 e (subst (λ t. Contains t e) (sym all) is))
+    OnFalse_from c.loop-edge.news _ (λ quiet. λ i j kind is. (MatchBool-at_false _ _ quiet c.loop-edge.invariant.2).1 (edge i kind j) (subst (λ t. Contains t (edge i kind j)) (sym all) is))
