@@ -1,5 +1,5 @@
 -- The objects of string constants: each text has one, and no two have the same.
-use Rattle.std.proofs.Common.{◌≡◌, ◌∙◌, ℕ, zero, suc, ◌+◌, ◌<◌, Bool, true, false, not, cond, List, [], ◌∷◌, ◌++◌, length, replicate, filter, Contains, Option, Some, None, refl, sym, ap, subst, arith, inl, inr}
+use Rattle.std.proofs.Common.{◌≡◌, ◌∙◌, ℕ, zero, suc, ◌+◌, ◌<◌, Bool, true, false, not, cond, List, [], ◌∷◌, ◌++◌, length, replicate, filter, Option, Some, None, refl, sym, ap, subst, arith, inl, inr}
 use Rattle.std.specs.Prelude.{option_map, slice_get}
 use Rattle.std.specs.Str.{bytes_eq}
 use Rattle.std.specs.List.{AllByRecursion}
@@ -9,7 +9,7 @@ use Rattle.std.proofs.lemmas.Option.{none-some, same_Some, slice_get_within}
 use Rattle.jo_prog.specs.declared.program.Program.{Program}
 use Rattle.jo_prog.specs.declared.labels.Labels.{Labels}
 use Rattle.jo_prog.specs.Constants.{texts_of, distinct, place_of, string_constants, string_address}
-use Rattle.jo_prog.specs.Machine.{HeapObject, string_object, first_heap, start}
+use Rattle.jo_prog.specs.Machine.{string_object, first_heap, start}
 
 same_texts : (a b : List ℕ) → bytes_eq a b ≡ true → a ≡ b
 same_texts a b e = (bytes_decides a b).0 e

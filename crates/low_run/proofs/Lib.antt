@@ -1,9 +1,10 @@
 pub mod Agreement
-pub mod AlikeRuns
-pub mod AlikeValues
 pub mod CleanRuns
 pub mod LeakRuns
-pub mod NeverStuck
+pub mod PlainFrames
+pub mod PlainGiven
+pub mod PlainLaws
 pub mod Relevance
 pub mod Sides
+pub mod TwoRuns
 pub mod Verdicts

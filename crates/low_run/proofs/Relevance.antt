@@ -1,22 +1,15 @@
--- Relevance: the nodes from which a valid chain leads to what an observer may see, and the places whose value bears on a
--- set of nodes.
+-- Relevance: the nodes from which a valid chain leads to what an observer may see.
 use Rattle.std.proofs.Common.{◌≡◌, ℕ, Bool, true, false, cond, List, [], ◌∷◌, Some, refl, ap}
 use Rattle.std.proofs.lemmas.Bool.{false≢true}
 use Rattle.jo_prog.specs.declared.labels.Labels.{Labels}
 use Rattle.jo_prog.specs.declared.program.Program.{Program}
 use Rattle.jo_prog.specs.Labels.{flows, reaches, misses}
-use Rattle.dependence.specs.declared.flow.Place.{Place}
-use Rattle.dep_nodes.specs.declared.kinds.NodeKind.{NodeKind}
-use Rattle.dep_nodes.specs.declared.kinds.NodeKind.TheVariants.{Call, Arg}
 use Rattle.dep_nodes.specs.declared.kinds.EdgeKind.{EdgeKind}
 use Rattle.dep_nodes.specs.declared.kinds.EdgeKind.TheVariants.{Data, Control, Out, Arg as ArgEdge, Call as CallEdge, Ret, Heap, Fork}
-use Rattle.dependence.specs.Flow.{FlowEdge, IsFlowNode, Reads, Writes, ArgumentPlace, FlowReaches}
-use Rattle.dependence.specs.Dependence.{one, more}
 use Rattle.dep_nodes.specs.declared.chains.Word.TheVariants.{Edge as AnEdge}
-use Rattle.dep_nodes.specs.Nodes.{Node, node, CallSite}
+use Rattle.dep_nodes.specs.Nodes.{Node, CallSite}
 use Rattle.dep_nodes.specs.Chains.{Link, adv, IsChainFrom, end_of}
-use Rattle.dependence.specs.Graph.{at_entry, DependenceEdge, used, passed as passed_edge}
-use Rattle.flow_graph.proofs.PlainReaching.{root}
+use Rattle.dependence.specs.Graph.{DependenceEdge}
 use Rattle.low_run.specs.ByEdges.{HiddenByEdges, ObservedByEdges, CleanByEdges}
 
 -- ---- nodes
@@ -83,29 +76,3 @@ reaches_else labels observer level free = by_flow (flows labels level observer) 
     by_flow : (b : Bool) → flows labels level observer ≡ b → (misses labels observer (Some level) ≡ true → ⊥) → flows labels level observer ≡ true
     by_flow true e none = e
     by_flow false e none = absurd (none (ap (λ (x : Bool). cond x false true) e))
-
--- ---- places
-
--- what is relevant is so with all that its data comes from
-abbrev pub IsClosed : Program → Labels → (NodeKind → Type 0) → Type 0
-IsClosed program labels Relevant = (d n : NodeKind) → DependenceEdge program labels (node (root labels) d) Data (node (root labels) n) → Relevant n → Relevant d
-
--- At a node a place is needed: a relevant node reads it there, or further on before it is written.
-pub data IsNeeded (program : Program) (m : ℕ) (Relevant : NodeKind → Type 0) (v : Place) : NodeKind → Type 0 where
-  read : (n : NodeKind) → Reads program m n v → Relevant n → IsNeeded program m Relevant v n
-  passed : (pc a : ℕ) → ArgumentPlace program m pc a v → Relevant (Arg pc a) → IsNeeded program m Relevant v (Call pc)
-  later : (n next : NodeKind) → (Writes program m n v → ⊥) → FlowEdge program m n next → IsNeeded program m Relevant v next → IsNeeded program m Relevant v n
-
-pub relevant_by_data : (program : Program) (labels : Labels) (observer : ℕ) → IsClosed program labels (λ n. IsRelevant program labels observer (node (root labels) n))
-relevant_by_data program labels observer d n edge relevant = within (node (root labels) d) (node (root labels) n) Data refl edge relevant
-
-module _ (program : Program) (labels : Labels) (Relevant : NodeKind → Type 0) (closed : IsClosed program labels Relevant) where
-  -- a definition that reaches a node where its place is needed is relevant
-  pub needed_definition : (v : Place) (d n : NodeKind) → IsFlowNode program labels.entry d → FlowReaches program labels.entry v d n → IsNeeded program labels.entry Relevant v n → Relevant d
-  needed_definition v d n flow reach (read k reads relevant) = closed d k (used (root labels) d k v at_entry flow reach reads) relevant
-  needed_definition v d n flow reach (passed pc a place relevant) = closed d (Arg pc a) (passed_edge (root labels) d pc a v at_entry flow reach place) relevant
-  needed_definition v d n flow reach (later k next none edge rest) = needed_definition v d next flow (more k next reach none edge) rest
-
-  -- who writes a place that is needed behind it is relevant
-  pub needed_writer : (v : Place) (n next : NodeKind) → IsFlowNode program labels.entry n → Writes program labels.entry n v → FlowEdge program labels.entry n next → IsNeeded program labels.entry Relevant v next → Relevant n
-  needed_writer v n next flow writes edge need = needed_definition v n next flow (one next edge writes) need

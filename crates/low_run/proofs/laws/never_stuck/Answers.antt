@@ -1,4 +1,4 @@
-use Rattle.low_run.proofs.NeverStuck.{never_stuck}
+use Rattle.low_run.proofs.CleanRuns.{never_stuck}
 use Rattle.low_run.proofs.laws.never_stuck.Goals as goal
 
 pub returns : goal.returns
