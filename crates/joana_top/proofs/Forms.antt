@@ -26,17 +26,16 @@ use Rattle.jo_prog.specs.Typing.{IsTypedCode}
 use Rattle.jo_prog.specs.PlainCode.{IsWellLabelled, IsPlainProgram, IsPlainFrom, last, then}
 use Rattle.flow_graph.specs.Building.{HasShortCode}
 use Rattle.jo_policy.specs.PolicyFile.{policy_of}
-use Rattle.joana_top.specs.Decision.{MakesProgram, IsFormOf, IsVerdict, Decides, IsReadClass}
-use Rattle.joana_top.specs.declared.check.Decision.{Decision}
-use Rattle.joana_top.specs.declared.check.Decision.TheVariants.{NotBuilt, Accepted, Refused}
-use Rattle.joana_top.specs.FirstForm.{is_bare, is_of_prelude, is_under_object, IsFirstForm}
+use Rattle.joana_top.specs.Check.{is_bare, is_of_prelude, is_under_object, IsFirstForm, MakesProgram, IsFormOf, IsVerdict, IsDecision, IsReadClass}
+use Rattle.joana_top.specs.declared.commands.check.Decision.{Decision}
+use Rattle.joana_top.specs.declared.commands.check.Decision.TheVariants.{NotBuilt, Accepted, Refused}
 use Rattle.low_run.proofs.Verdicts.{true_not_false}
 
 pub read_at : {X : Type 0} (xs : List X) (i : ℕ) (x : X) → i < length xs → x ≡ get_or xs i x → slice_get xs i ≡ Some x
 read_at xs i x below at = slice_get_read xs (length xs) i x refl below at
 
 -- no flag is set where its bit isn't
-pub lacks_native : (flags : ℕ) → bit_and flags native_flag ≡ 0 → has_flag native_flag flags ≡ true → ⊥
+pub lacks_native : (flags : ℕ) → bit_and flags native_flag ≡ 0 → ¬ (has_flag native_flag flags ≡ true)
 lacks_native flags none set =
     let zero_is : (bit_and flags native_flag == 0) ≡ true = ap (λ n. n == 0) none in
     true_not_false (sym set ∙ ap not zero_is)
@@ -44,13 +43,13 @@ lacks_native flags none set =
 pub few_methods : (class : ClassFile) → IsReadClass class → length class.methods < 2 ^ 32
 few_methods class is = omega (arith, is.1.methods.2)
 
-pub not_bare : (class : ClassFile) → false ≡ is_bare class → (program : Program) → MakesProgram class program → ⊥
+pub not_bare : (class : ClassFile) → false ≡ is_bare class → (program : Program) → ¬ MakesProgram class program
 not_bare class of program m = true_not_false (sym m.bare ∙ sym of)
 
-pub wrong_name : (class : ClassFile) → true ≡ is_of_prelude class → (program : Program) → MakesProgram class program → ⊥
+pub wrong_name : (class : ClassFile) → true ≡ is_of_prelude class → (program : Program) → ¬ MakesProgram class program
 wrong_name class of program m = true_not_false (of ∙ m.own_name)
 
-pub wrong_superclass : (class : ClassFile) → false ≡ is_under_object class → (program : Program) → MakesProgram class program → ⊥
+pub wrong_superclass : (class : ClassFile) → false ≡ is_under_object class → (program : Program) → ¬ MakesProgram class program
 wrong_superclass class of program m = true_not_false (sym m.superclass ∙ sym of)
 
 -- ---- one program and one policy
@@ -108,11 +107,11 @@ first_form class policy program labels m l well f = record {
 
 -- ---- what isn't of the first form
 
-pub no_program_form : (class : ClassFile) (policy : List ℕ) → ((program : Program) → MakesProgram class program → ⊥) → (program : Program) (labels : Labels) → IsFirstForm class policy program labels → ⊥
+pub no_program_form : (class : ClassFile) (policy : List ℕ) → ((program : Program) → ¬ MakesProgram class program) → (program : Program) (labels : Labels) → ¬ IsFirstForm class policy program labels
 no_program_form class policy none program labels f = none program (makes_of class policy program labels f)
 
 pub no_policy_form : (class : ClassFile) (policy : List ℕ) (p : Program) → MakesProgram class p → ((tree : Members) → IsUtf8 policy → parse_document policy ≡ Some tree → policy_of tree p ≡ None)
-    → (program : Program) (labels : Labels) → IsFirstForm class policy program labels → ⊥
+    → (program : Program) (labels : Labels) → ¬ IsFirstForm class policy program labels
 no_policy_form class policy p m none program labels f =
     let same = one_program class program p (makes_of class policy program labels f) m in
     let absent : policy_of f.tree program ≡ None = ap (policy_of f.tree) same ∙ none f.tree f.text f.parsed in
@@ -121,8 +120,8 @@ no_policy_form class policy p m none program labels f =
     some_not_none : {X : Type 0} {x : X} → Some x ≡ None → ⊥
     some_not_none e = absurd (cc)
 
-pub no_form : (class : ClassFile) (policy : List ℕ) (p : Program) (l : Labels) → MakesProgram class p → Labelled policy p l → (IsFormOf p l → ⊥)
-    → (program : Program) (labels : Labels) → IsFirstForm class policy program labels → ⊥
+pub no_form : (class : ClassFile) (policy : List ℕ) (p : Program) (l : Labels) → MakesProgram class p → Labelled policy p l → (¬ IsFormOf p l)
+    → (program : Program) (labels : Labels) → ¬ IsFirstForm class policy program labels
 no_form class policy p l m a none program labels f =
     let same = one_program class program p (makes_of class policy program labels f) m in
     let Form : Program → Type 0 = λ q. Labelled policy q labels × IsFormOf q labels in
@@ -195,7 +194,7 @@ few_of_program class program is made =
     omega (arith, same, mapped, is.1.methods.2)
 
 -- the verdict on the program is the decision on the bytes
-pub decided : (class : ClassFile) (policy : List ℕ) (program : Program) (labels : Labels) (decision : Decision) → IsFirstForm class policy program labels → IsVerdict program labels decision → Decides class policy decision
+pub decided : (class : ClassFile) (policy : List ℕ) (program : Program) (labels : Labels) (decision : Decision) → IsFirstForm class policy program labels → IsVerdict program labels decision → IsDecision class policy decision
 decided class policy program labels NotBuilt form v = absurd v
 decided class policy program labels Accepted form v = (program, labels, form, v)
 decided class policy program labels (Refused text) form v = (program, labels, form, v)

@@ -1,5 +1,3 @@
-pub mod Answering
-pub mod Coming
-pub mod FileClasses
+pub mod Endings
 pub mod Forms
-pub mod Reading
+pub mod Outcomes

@@ -1,8 +1,7 @@
 pub mod Words
-pub mod Notes
-pub mod Files
-pub mod FirstForm
-pub mod Outcome
-pub mod Reading
-pub mod Decision
+pub mod Sinks
 pub mod Answers
+pub mod Check
+pub mod Dis
+pub mod Commands
+pub mod Top

@@ -1,47 +1,46 @@
--- The words of a command, the paths of a class list, and the status of a run (this project's own).
-use Rattle.std.specs.Prelude.{ℕ, if◌then◌else◌, List, [], ◌∷◌, Option, Some, None, codes}
+-- The words of a command (this project's own).
+use Rattle.std.specs.Prelude.{ℕ, if◌then◌else◌, List, [], ◌∷◌, map, Option, Some, None, String, string_bytes, codes}
 use Rattle.std.specs.Str.{bytes_eq}
-use Rattle.jo_text.specs.Lines.{lines_of}
-use Rattle.joana_top.specs.declared.words.CheckNames.{CheckNames as WordNames}
-use Rattle.joana_top.specs.declared.words.Command.{Command as WordCommand}
-use Rattle.joana_top.specs.declared.words.Command.TheVariants as words
-use Rattle.joana_top.specs.declared.status.Status.{Status}
-use Rattle.joana_top.specs.declared.status.Status.TheVariants.{Done, Refused, Words, Input, Limit, Outside, Memory}
-
--- the names of the two files that `check CLASSES POLICY` names
-pub record CheckNames : Type 0 where
-  pub classes : List ℕ
-  pub policy : List ℕ
+use Rattle.std.specs.declared.alloc.Global.{Global}
+use Rattle.joana_base.specs.Files.{ProgramNames, names_of}
+use Rattle.joana_top.specs.declared.words.Kind.{Kind}
+use Rattle.joana_top.specs.declared.words.Kind.TheVariants.{Check, Dis}
+use Rattle.joana_top.specs.declared.words.Command as lent
+use Rattle.joana_top.specs.declared.words.Command.TheVariants as lents
 
 -- a command with the names of its files
 pub data Command : Type 0 where
-  check : CheckNames → Command
+  check : ProgramNames → Command
   dis : List ℕ → Command
+
+-- the first words, and the commands that they mean
+abbrev pub command_words : List (List ℕ × Kind)
+command_words = (codes "check", Check) ∷ (codes "dis", Dis) ∷ []
+
+abbrev pub kind_in : List (List ℕ × Kind) → List ℕ → Option Kind
+kind_in [] word = None
+kind_in (row ∷ rows) word = if bytes_eq row.0 word then Some row.1 else kind_in rows word
+
+-- the command with these names of files, where it takes so many
+abbrev pub with_names : Kind → List (List ℕ) → Option Command
+with_names Check (classes ∷ policy ∷ []) = Some (check (record { classes = classes; policy = policy }))
+with_names Dis (file ∷ []) = Some (dis file)
+with_names kind names = None
+
+abbrev pub with_kind : Option Kind → List (List ℕ) → Option Command
+with_kind None names = None
+with_kind (Some kind) names = with_names kind names
 
 -- the command, where the words are exactly of one of these forms
 abbrev pub command_of : List (List ℕ) → Option Command
-command_of (command ∷ file ∷ []) = if bytes_eq command (codes "dis") then Some (dis file) else None
-command_of (command ∷ classes ∷ policy ∷ []) = if bytes_eq command (codes "check") then Some (check (record { classes = classes; policy = policy })) else None
-command_of _ = None
-
--- the paths of a class list: a line each
-abbrev pub paths_of : List ℕ → List (List ℕ)
-paths_of text = lines_of text
-
-abbrev pub code_of : Status → ℕ
-code_of Done = 0
-code_of Refused = 1
-code_of Words = 2
-code_of (Input fault) = 3
-code_of (Limit kind) = 4
-code_of (Outside fault) = 5
-code_of Memory = 6
+command_of [] = None
+command_of (word ∷ names) = with_kind (kind_in command_words word) names
 
 -- ---- in memory
 
-abbrev pub names_of : WordNames → CheckNames
-names_of names = record { classes = names.classes.now; policy = names.policy.now }
+abbrev pub command_in : List (String Global) → Option Command
+command_in words = command_of (map string_bytes words)
 
-abbrev pub as_command : WordCommand → Command
-as_command (words.Check names) = check (names_of names)
-as_command (words.Dis file) = dis file.now
+abbrev pub as_command : lent.Command → Command
+as_command (lents.Check names) = check (names_of names)
+as_command (lents.Dis file) = dis file.now

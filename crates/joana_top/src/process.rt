@@ -1,7 +1,7 @@
 //! The process: words, files and streams of the system.
-use crate::status::Status;
 use crate::top::joana;
 use jo_io::{StdFiles, StdSink};
+use joana_base::Status;
 use std::process::ExitCode;
 use std::{env, io};
 

@@ -1,22 +1,21 @@
 //! The top call: words in, files read, one text out, and a status.
-ghost use Rattle.std.specs.Prelude.{◌≡◌, ◌⊎◌, map, string_bytes};
-ghost use Rattle.joana_top.specs.Words.{command_of};
-ghost use Rattle.joana_top.specs.Outcome.{FilesAfter, NotesAfter, OutAfter, SaysOf, WordsSay, Tried};
-ghost use Rattle.joana_top.specs.Answers.{IsPut, IsPutText, NotesOfPut, IsNoted, IsWordless};
-ghost use Rattle.joana_top.specs.declared.answers.Stop.TheVariants.{Refused as RefusedBy, Unread as Failed};
-ghost use Rattle.joana_top.specs.declared.status.Status.TheVariants.{Done, Refused};
+ghost use Rattle.std.specs.Prelude.{◌≡◌};
+ghost use Rattle.joana_base.specs.Reading.{files_change};
+ghost use Rattle.joana_base.specs.declared.answers.Stop.TheVariants.{Faulty, Unread as Failed};
+ghost use Rattle.joana_top.specs.Words.{command_in};
+ghost use Rattle.joana_top.specs.Sinks.{sink_change, TookAllOrPart};
+ghost use Rattle.joana_top.specs.Answers.{IsWordless, IsPut, NotesOfPut, IsNoted};
+ghost use Rattle.joana_top.specs.Top.{FitsWords, FitsReads, FitsOutput, FitsNotes, FitsRefusals, FitsVerdict, IsSecureIfAccepted, FitsListing};
 
-use crate::answers::{Answer, Stop, Unread};
 use crate::commands::run_command;
-use crate::notes::refusal_line;
-use crate::status::{OutsideFault, Refusal, Status};
 use crate::words;
 use jo_io::{Files, Sink};
+use joana_base::{Answer, OutsideFault, Refusal, Status, Stop, Unread, refusal_line};
 use std::alloc::Global;
 
 /// Tries a line to the notes; whether it was taken decides nothing.
 fn try_line<N: Sink>(notes: &mut N, line: &[u8])
-    ensures { Tried (N.given notes.old) (N.given notes.new) (N.faults notes.old) (N.faults notes.new) line.now }
+    ensures { TookAllOrPart (sink_change N.given N.faults notes.old notes.new) line.now }
 {
     match notes.put(line) {
         Ok(()) => (),
@@ -26,7 +25,7 @@ fn try_line<N: Sink>(notes: &mut N, line: &[u8])
 
 /// The status of words that are no command.
 fn no_words<N: Sink>(notes: &mut N) -> Status
-    ensures { IsWordless result (N.given notes.old) (N.given notes.new) (N.faults notes.old) (N.faults notes.new) }
+    ensures { IsWordless result (sink_change N.given N.faults notes.old notes.new) }
 {
     match notes.put(b"joana: words\n") {
         Ok(()) => Status::Words,
@@ -34,9 +33,9 @@ fn no_words<N: Sink>(notes: &mut N) -> Status
     }
 }
 
-/// The status of a command whose input is refused.
+/// The status of a command whose files are refused.
 fn refused<N: Sink>(alloc: Global, notes: &mut N, refusal: Refusal) -> Status
-    ensures { IsNoted (RefusedBy refusal) result (N.given notes.old) (N.given notes.new) (N.faults notes.old) (N.faults notes.new) }
+    ensures { IsNoted (Faulty refusal) result (sink_change N.given N.faults notes.old notes.new) }
 {
     let line = match refusal_line(alloc, refusal) {
         Ok(line) => line,
@@ -50,7 +49,7 @@ fn refused<N: Sink>(alloc: Global, notes: &mut N, refusal: Refusal) -> Status
 
 /// The status of a read that failed. A line to the notes is tried.
 fn unread<N: Sink>(alloc: Global, notes: &mut N, unread: &Unread) -> Status
-    ensures { IsNoted (Failed unread.now) result (N.given notes.old) (N.given notes.new) (N.faults notes.old) (N.faults notes.new) }
+    ensures { IsNoted (Failed unread.now) result (sink_change N.given N.faults notes.old notes.new) }
 {
     let name = unread.name.as_str();
     match format!(in alloc; "joana: outside {name}\n") {
@@ -64,38 +63,26 @@ fn unread<N: Sink>(alloc: Global, notes: &mut N, unread: &Unread) -> Status
 
 /// The status of a command that shows nothing.
 fn stopped<N: Sink>(alloc: Global, notes: &mut N, stop: &Stop) -> Status
-    ensures { IsNoted stop.now result (N.given notes.old) (N.given notes.new) (N.faults notes.old) (N.faults notes.new) }
+    ensures { IsNoted stop.now result (sink_change N.given N.faults notes.old notes.new) }
 {
     match stop {
-        Stop::Refused(refusal) => refused(alloc, notes, *refusal),
+        Stop::Faulty(refusal) => refused(alloc, notes, *refusal),
         Stop::Unread(failed) => unread(alloc, notes, failed),
         Stop::Memory => Status::Memory,
     }
 }
 
-/// Puts the one text of an answer, and gives this status where it was taken.
-fn put<S: Sink, N: Sink>(out: &mut S, notes: &mut N, text: &[u8], status: Status) -> Status
-    requires { (status ≡ Done) ⊎ (status ≡ Refused) }
-    ensures output { IsPutText text.now status result (S.given out.old) (S.given out.new) (S.faults out.old) (S.faults out.new) }
-    ensures notes { NotesOfPut result (N.given notes.old) (N.given notes.new) (N.faults notes.old) (N.faults notes.new) }
+/// Puts the one text of an answer.
+fn put_answer<S: Sink, N: Sink>(out: &mut S, notes: &mut N, answer: &Answer) -> Status
+    ensures output { IsPut answer.now result (sink_change S.given S.faults out.old out.new) }
+    ensures notes { NotesOfPut result (sink_change N.given N.faults notes.old notes.new) }
 {
-    match out.put(text) {
-        Ok(()) => status,
+    match out.put(answer.text()) {
+        Ok(()) => answer.status(),
         Err(_) => {
             try_line(notes, b"joana: outside output\n");
             Status::Outside(OutsideFault::Output)
         }
-    }
-}
-
-/// Puts an answer.
-fn put_answer<S: Sink, N: Sink>(out: &mut S, notes: &mut N, answer: &Answer) -> Status
-    ensures output { IsPut answer.now result (S.given out.old) (S.given out.new) (S.faults out.old) (S.faults out.new) }
-    ensures notes { NotesOfPut result (N.given notes.old) (N.given notes.new) (N.faults notes.old) (N.faults notes.new) }
-{
-    match answer {
-        Answer::Done(text) => put(out, notes, text.as_slice(), Status::Done),
-        Answer::Refused(text) => put(out, notes, text.as_slice(), Status::Refused),
     }
 }
 
@@ -111,14 +98,25 @@ pub fn joana<F: Files, S: Sink, N: Sink>(
     notes: &mut N,
 ) -> Status
     // `Words` exactly where the words are no command.
-    ensures words { WordsSay (command_of (map string_bytes words.now)) result }
+    ensures words { FitsWords (command_in words.now) result }
     // The files' count rises where the answer is a failed read, which is the last that failed.
-    ensures files { FilesAfter (F.held files.old) (command_of (map string_bytes words.now)) result (F.faults files.old) (F.faults files.new) (F.failed files.new) }
+    ensures reads { FitsReads (command_in words.now) result
+        (files_change F.held F.faults F.failed files.old files.new) }
     // What the two sinks were given.
-    ensures output { OutAfter (command_of (map string_bytes words.now)) result (S.given out.old) (S.given out.new) (S.faults out.old) (S.faults out.new) }
-    ensures notes { NotesAfter (command_of (map string_bytes words.now)) result (N.given notes.old) (N.given notes.new) (N.faults notes.old) (N.faults notes.new) (F.failed files.new) }
-    // Where the files tell their bytes: what refuses them, the verdict on the program that they make, the listing.
-    ensures verdict { SaysOf (F.held files.old) (command_of (map string_bytes words.now)) result (S.given out.old) (S.given out.new) (N.given notes.old) (N.given notes.new) }
+    ensures output { FitsOutput (command_in words.now) result (sink_change S.given S.faults out.old out.new) }
+    ensures notes { FitsNotes (command_in words.now) result (F.failed files.new)
+        (sink_change N.given N.faults notes.old notes.new) }
+    // Of bytes that are the files' wherever they tell them: what refuses them,
+    ensures refusals { FitsRefusals (F.held files.old) (command_in words.now) result
+        (sink_change N.given N.faults notes.old notes.new) }
+    // the verdict on the program that they make,
+    ensures verdict { FitsVerdict (F.held files.old) (command_in words.now) result
+        (sink_change S.given S.faults out.old out.new) }
+    // that an accepted program is secure,
+    ensures secure { IsSecureIfAccepted (F.held files.old) (command_in words.now) result }
+    // and the listing of the class that they are.
+    ensures listing { FitsListing (F.held files.old) (command_in words.now) result
+        (sink_change S.given S.faults out.old out.new) }
 {
     let command = match words::command_of(words) {
         Some(command) => command,

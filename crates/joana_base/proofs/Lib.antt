@@ -1,0 +1,2 @@
+pub mod FileClasses
+pub mod ReadFiles

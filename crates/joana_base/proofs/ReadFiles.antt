@@ -1,0 +1,209 @@
+-- From what single reads say to what reading the files of a program says.
+use Rattle.std.proofs.Common.{◌≡◌, ◌∙◌, ℕ, suc, ◌+◌, ◌<◌, ◌≤◌, ◌^◌, Bool, true, false, cond, not, ◌==◌, ◌||◌, List, [], ◌∷◌, ◌++◌, length, drop, filter, get_or, Option, Some, IfSome, Result, Ok, Err, slice_get, refl, sym, ap, subst, arith}
+use Rattle.std.specs.Prelude.{Vec}
+use Rattle.std.specs.Str.{IsUtf8, is_utf8}
+use Rattle.std.specs.Str.Lines.{lines, lines_of_parts}
+use Rattle.std.specs.List.{slice_split, onto_first}
+use Rattle.std.specs.declared.alloc.Global.{Global}
+use Rattle.std.proofs.lemmas.Bool.{ltb-false}
+use Rattle.std.proofs.lemmas.Str.{IsUtf8-from_is_utf8, is_utf8-from_IsUtf8}
+use Rattle.std.proofs.lemmas.List.{append-nil, drop_more, drop_all}
+use Rattle.jo_io.specs.Counts.{Rose}
+use Rattle.class_pool.specs.declared.classes.ClassFile.{ClassFile}
+use Rattle.joana_base.specs.Files.{Held, ProgramNames, ProgramFiles, paths_of, IsToldAs, AreToldAs, AreProgramFiles, is_large, classes_of, program_classes}
+use Rattle.joana_base.specs.Reading.{all_bytes, FilesChange, change_of, AreReadable, IsPathRead, IsProgramRead, AfterRead, AfterPathReads, AfterListReads, AfterProgramReads, ReadsList, ReadsProgram}
+use Rattle.joana_base.specs.declared.reading.ProgramFiles as memory
+use Rattle.joana_base.specs.declared.answers.Stop.{Stop}
+use Rattle.joana_base.specs.declared.answers.Stop.TheVariants.{Faulty, Unread, Memory}
+use Rattle.joana_base.specs.declared.status.InputFault.TheVariants.{NotBuilt}
+use Rattle.joana_base.specs.declared.status.LimitKind.TheVariants.{M2}
+use Rattle.joana_base.specs.declared.status.Refusal.{Refusal}
+use Rattle.joana_base.specs.declared.status.Refusal.TheVariants.{Input, Limit}
+
+-- ---- a list has fewer paths than bytes
+
+long_first : (x : ℕ) (parts : List (List ℕ)) → length (onto_first x parts) ≤ suc (length parts)
+long_first x [] = omega arith
+long_first x (y ∷ ys) = omega arith
+
+split_parts : (test : ℕ → Bool) (xs : List ℕ) → length (slice_split test xs) ≤ suc (length xs)
+split_parts test [] = omega arith
+split_parts test (x ∷ xs) = by (test x) (split_parts test xs)
+  where
+    by : (b : Bool) → length (slice_split test xs) ≤ suc (length xs) → length (cond b ([] ∷ slice_split test xs) (onto_first x (slice_split test xs))) ≤ suc (suc (length xs))
+    by true h = omega (arith, h)
+    by false h = let first = long_first x (slice_split test xs) in omega (arith, h, first)
+
+fewer_lines : (parts : List (List ℕ)) → length (lines_of_parts parts) ≤ length parts
+fewer_lines [] = omega arith
+fewer_lines (x ∷ []) = by (length x == 0)
+  where
+    by : (b : Bool) → length (cond {A = List (List ℕ)} b [] (x ∷ [])) ≤ 1
+    by true = omega arith
+    by false = omega arith
+fewer_lines (x ∷ y ∷ more) = let rest = fewer_lines (y ∷ more) in omega (arith, rest)
+
+fewer_kept : {X : Type 0} (test : X → Bool) (xs : List X) → length (filter test xs) ≤ length xs
+fewer_kept test [] = omega arith
+fewer_kept {X} test (x ∷ xs) = by (test x) (fewer_kept test xs)
+  where
+    by : (b : Bool) → length (filter test xs) ≤ length xs → length (cond {A = List X} b (x ∷ filter test xs) (filter test xs)) ≤ suc (length xs)
+    by true h = omega (arith, h)
+    by false h = omega (arith, h)
+
+pub few_paths : (list : List ℕ) → is_large list ≡ false → length (paths_of list) + 2 < 2 ^ 32
+few_paths list small =
+    let below = ltb-false 1048576 (length list) small in
+    let parts = split_parts (λ b. b == 10) list in
+    let found = fewer_lines (slice_split (λ b. b == 10) list) in
+    let kept = fewer_kept (λ line. not (length line == 0)) (lines list) in
+    omega (arith, below, parts, found, kept)
+
+-- ---- what is held
+
+-- files that hold the same under each name
+pub holds_as : (held later : Held) → ((name : List ℕ) → later name ≡ held name) → (name bytes : List ℕ) → IsToldAs later name bytes → IsToldAs held name bytes
+holds_as held later same name bytes h = let P : Option (List ℕ) → Type 0 = λ o. IfSome o (λ told. bytes ≡ told) in subst P (same name) h
+
+pub each_holds_as : (held later : Held) → ((name : List ℕ) → later name ≡ held name) → (names files : List (List ℕ)) → AreToldAs later names files → AreToldAs held names files
+each_holds_as held later same [] [] h = tt
+each_holds_as held later same [] (x ∷ xs) h = absurd h
+each_holds_as held later same (n ∷ ns) [] h = absurd h
+each_holds_as held later same (n ∷ ns) (x ∷ xs) h = (holds_as held later same n x h.0, each_holds_as held later same ns xs h.1)
+
+pub each_has_one : (held : Held) (names files : List (List ℕ)) → AreToldAs held names files → length files ≡ length names
+each_has_one held [] [] h = refl
+each_has_one held [] (x ∷ xs) h = absurd h
+each_has_one held (n ∷ ns) [] h = absurd h
+each_has_one held (n ∷ ns) (x ∷ xs) h = ap suc (each_has_one held ns xs h.1)
+
+later_rose : (old mid new : ℕ) → mid ≡ old → Rose mid new → Rose old new
+later_rose old mid new same rose = let P : ℕ → Type 0 = λ n. Rose n new in subst P same rose
+
+not_utf8 : (text : List ℕ) → (IsUtf8 text → ⊥) → is_utf8 text ≡ false
+not_utf8 text none = by (is_utf8 text) refl
+  where
+    by : (b : Bool) → is_utf8 text ≡ b → is_utf8 text ≡ false
+    by true e = absurd (none (IsUtf8-from_is_utf8 text e))
+    by false e = e
+
+or_true : (b : Bool) → (b || true) ≡ true
+or_true true = refl
+or_true false = refl
+
+abbrev of_parts : List ℕ → List ℕ → List (List ℕ) → ProgramFiles
+of_parts policy list classes = record { policy = policy; list = list; classes = classes }
+
+-- what is readable goes on to its class files
+pub readable : (files : ProgramFiles) → AreReadable files → program_classes files ≡ classes_of files.classes
+readable files r =
+    let e : (is_large files.policy || is_large files.list) ≡ false = ap (λ b. b || is_large files.list) r.policy ∙ r.list in
+    ap (λ b. cond {A = Result (List ClassFile) Refusal} b (Err (Limit M2)) (cond (is_utf8 files.list) (classes_of files.classes) (Err (Input NotBuilt)))) e
+    ∙ ap (λ b. cond {A = Result (List ClassFile) Refusal} b (classes_of files.classes) (Err (Input NotBuilt))) (is_utf8-from_IsUtf8 files.list r.text)
+
+-- ---- all files of a program
+
+-- what holds where the policy and the list were read
+module _ (held : Held) (names : ProgramNames) (policy list : List ℕ) (has_policy : IsToldAs held names.policy policy) (has_list : IsToldAs held names.classes list) where
+  pub large_policy : true ≡ is_large policy → (files : ProgramFiles) × AreProgramFiles held names files × (program_classes files ≡ Err (Limit M2))
+  large_policy large = (
+    of_parts policy list [],
+    record { policy = has_policy; list = has_list; classes = λ small _ _. absurd (cc) },
+    ap (λ b. cond {A = Result (List ClassFile) Refusal} (b || is_large list) (Err (Limit M2)) (cond (is_utf8 list) (classes_of []) (Err (Input NotBuilt)))) (sym large),
+  )
+
+  pub large_list : true ≡ is_large list → (files : ProgramFiles) × AreProgramFiles held names files × (program_classes files ≡ Err (Limit M2))
+  large_list large = (
+    of_parts policy list [],
+    record { policy = has_policy; list = has_list; classes = λ _ small _. absurd (cc) },
+    ap (λ b. cond {A = Result (List ClassFile) Refusal} b (Err (Limit M2)) (cond (is_utf8 list) (classes_of []) (Err (Input NotBuilt)))) (ap (λ b. is_large policy || b) (sym large) ∙ or_true (is_large policy)),
+  )
+
+  -- neither is large; the class files are read after these
+  module _ (later : Held) (same : (name : List ℕ) → later name ≡ held name) (small_policy : false ≡ is_large policy) (small_list : false ≡ is_large list) where
+    neither : (is_large policy || is_large list) ≡ false
+    neither = ap (λ b. b || is_large list) (sym small_policy) ∙ sym small_list
+
+    pub program_read : (classes : List (List ℕ)) → IsUtf8 list × AreToldAs later (paths_of list) classes
+        → AreReadable (of_parts policy list classes) × AreProgramFiles held names (of_parts policy list classes)
+    program_read classes read =
+        let each = each_holds_as held later same (paths_of list) classes read.1 in
+        let long = each_has_one held (paths_of list) classes each in
+        let few = few_paths list (sym small_list) in (
+          record { policy = sym small_policy; list = sym small_list; text = read.0; few = omega (arith, long, few) },
+          record { policy = has_policy; list = has_list; classes = λ _ _ _. each },
+        )
+
+    no_text : (IsUtf8 list → ⊥) → program_classes (of_parts policy list []) ≡ Err (Input NotBuilt)
+    no_text none =
+        ap (λ b. cond {A = Result (List ClassFile) Refusal} b (Err (Limit M2)) (cond (is_utf8 list) (classes_of []) (Err (Input NotBuilt)))) neither
+        ∙ ap (λ b. cond {A = Result (List ClassFile) Refusal} b (classes_of []) (Err (Input NotBuilt))) (not_utf8 list none)
+
+    pub list_stopped : (stop : Stop) → ReadsList later list (Err stop) → ReadsProgram held names (Err stop)
+    list_stopped (Faulty refusal) read = (
+      of_parts policy list [],
+      record { policy = has_policy; list = has_list; classes = λ _ _ text. absurd (read.1 text) },
+      no_text read.1 ∙ ap (λ (r : Refusal). Err r) (sym read.0),
+    )
+    list_stopped (Unread unread) read = tt
+    list_stopped Memory read = tt
+
+    pub stopped_after : (stop : Stop) (before mid after : ℕ) (failed : List ℕ) → mid ≡ before
+        → AfterListReads {T = Vec (Vec ℕ Global) Global} list (Err stop) (change_of later mid after failed)
+        → AfterProgramReads {T = memory.ProgramFiles} names (Err stop) (change_of held before after failed)
+    stopped_after (Faulty refusal) before mid after failed quiet a = a ∙ quiet
+    stopped_after (Unread unread) before mid after failed quiet a =
+        let path = a.1.2 in
+        let P : ℕ → Type 0 = λ n. IsProgramRead held names n failed in
+        let second : unread.number ≡ suc (suc path.0) = omega (arith, path.1) in
+        let read : IsPathRead held names path.0 failed = record {
+          policy = policy;
+          policy_told = has_policy;
+          list = list;
+          list_told = has_list;
+          small_policy = sym small_policy;
+          small_list = a.1.0;
+          text = a.1.1;
+          path = path.2;
+        } in (later_rose before mid after quiet a.0, subst P (sym second) read, a.2)
+    stopped_after Memory before mid after failed quiet a = omega (arith, quiet, a)
+
+-- ---- the loop over paths, at one of them
+
+-- what holds at the path with number i: no read has failed, the files hold what they held, and the files read go with paths
+pub record PathsRead (held now : Held) (old new : ℕ) (paths : List (List ℕ)) (front : List (Vec ℕ Global)) (i : ℕ) : Type 0 where
+  pub quiet : new ≡ old
+  pub same : (name : List ℕ) → now name ≡ held name
+  pub read : (rest : List (List ℕ)) → AreToldAs held (drop i paths) rest → AreToldAs held paths (all_bytes front ++ rest)
+
+pub path_read : (held now later : Held) (old mid new : ℕ) (paths : List (List ℕ)) (front : List (Vec ℕ Global)) (i : ℕ) (path : List ℕ) (bytes : Vec ℕ Global)
+    → i < length paths → path ≡ get_or paths i path → PathsRead held now old mid paths front i → new ≡ mid → ((name : List ℕ) → later name ≡ now name) → IsToldAs now path bytes.items
+    → PathsRead held later old new paths (front ++ bytes ∷ []) (i + 1)
+path_read held now later old mid new paths front i path bytes below is on quiet same holds =
+    let here : drop i paths ≡ path ∷ drop (i + 1) paths = drop_more paths i path below ∙ ap (λ (x : List ℕ). x ∷ drop (i + 1) paths) (sym is) in
+    let At : List (List ℕ) → Type 0 = λ ps. (rest : List (List ℕ)) → AreToldAs held ps rest → AreToldAs held paths (all_bytes front ++ rest) in
+    let Files : List (List ℕ) → Type 0 = AreToldAs held paths in
+    record {
+      quiet = quiet ∙ on.quiet;
+      same = λ name. same name ∙ on.same name;
+      read = λ rest each. subst Files (grown front bytes rest) (subst At here on.read (bytes.items ∷ rest) (holds_as held now on.same path bytes.items holds, each));
+    }
+  where
+    grown : (front : List (Vec ℕ Global)) (bytes : Vec ℕ Global) (rest : List (List ℕ)) → all_bytes front ++ bytes.items ∷ rest ≡ all_bytes (front ++ bytes ∷ []) ++ rest
+    grown [] bytes rest = refl
+    grown (x ∷ xs) bytes rest = ap (λ (ys : List (List ℕ)). x.items ∷ ys) (grown xs bytes rest)
+
+pub paths_read : (held now : Held) (old new : ℕ) (paths : List (List ℕ)) (front : List (Vec ℕ Global)) (i : ℕ) → length paths ≤ i → PathsRead held now old new paths front i
+    → AreToldAs held paths (all_bytes front)
+paths_read held now old new paths front i past on =
+    let At : List (List ℕ) → Type 0 = λ ps. (rest : List (List ℕ)) → AreToldAs held ps rest → AreToldAs held paths (all_bytes front ++ rest) in
+    let Files : List (List ℕ) → Type 0 = AreToldAs held paths in
+    subst Files (append-nil (all_bytes front)) (subst At (drop_all i paths past) on.read [] tt)
+
+pub path_stops : (T U : Type 0) (held now : Held) (paths : List (List ℕ)) (k : ℕ) (path : List ℕ) (stop : Stop) (before mid after : ℕ) (failed : List ℕ)
+    → slice_get paths k ≡ Some path → mid ≡ before → AfterRead {T = T} (k + 2) path (Err stop) (change_of now mid after failed)
+    → AfterPathReads {T = U} paths (Err stop) (change_of held before after failed)
+path_stops T U held now paths k path (Faulty refusal) before mid after failed at same a = a ∙ same
+path_stops T U held now paths k path (Unread unread) before mid after failed at same a =
+    (later_rose before mid after same a.0, (k, a.1.0, at ∙ ap (λ (name : List ℕ). Some name) (sym a.1.1)), a.2)
+path_stops T U held now paths k path Memory before mid after failed at same a = omega (arith, same, a)

@@ -1,0 +1,89 @@
+-- The files of a command, and the order in which they are refused (this project's own).
+use Rattle.std.specs.Prelude.{◌≡◌, ℕ, suc, Bool, false, ◌||◌, nat_lt, if◌then◌else◌, List, [], ◌∷◌, length, Option, IfSome, Result, Ok, Err, ⊤}
+use Rattle.std.specs.List.{list_any}
+use Rattle.std.specs.Str.{IsUtf8, is_utf8}
+use Rattle.jo_text.specs.Lines.{lines_of}
+use Rattle.class_pool.specs.declared.classes.ClassFile.{ClassFile}
+use Rattle.class_pool.specs.declared.faults.ClassFault.{ClassFault}
+use Rattle.class_pool.specs.ClassOrder.{class_of}
+use Rattle.joana_base.specs.declared.reading.ProgramNames as lent
+use Rattle.joana_base.specs.declared.status.InputFault.TheVariants.{NotBuilt, Class}
+use Rattle.joana_base.specs.declared.status.LimitKind.TheVariants.{M2}
+use Rattle.joana_base.specs.declared.status.Refusal.{Refusal}
+use Rattle.joana_base.specs.declared.status.Refusal.TheVariants.{Input, Limit}
+
+-- what the files hold under their names, where they tell it
+abbrev pub Held : Type 0
+Held = List ℕ → Option (List ℕ)
+
+-- the names of the files that make a program and say what it may show
+pub record ProgramNames : Type 0 where
+  pub classes : List ℕ
+  pub policy : List ℕ
+
+-- these files: the policy, the class list, and the class files in the order of the list
+pub record ProgramFiles : Type 0 where
+  pub policy : List ℕ
+  pub list : List ℕ
+  pub classes : List (List ℕ)
+
+abbrev pub names_of : lent.ProgramNames → ProgramNames
+names_of names = record { classes = names.classes.now; policy = names.policy.now }
+
+-- the paths of a class list: a line each
+abbrev pub paths_of : List ℕ → List (List ℕ)
+paths_of text = lines_of text
+
+-- a file may have 1,048,576 bytes
+abbrev pub is_large : List ℕ → Bool
+is_large bytes = nat_lt 1048576 (length bytes)
+
+-- the bytes are those held under the name, where these are told
+abbrev pub IsToldAs : Held → List ℕ → List ℕ → Type 0
+IsToldAs held name bytes = IfSome (held name) (λ told. bytes ≡ told)
+
+-- the same of each of these names
+abbrev pub AreToldAs : Held → List (List ℕ) → List (List ℕ) → Type 0
+AreToldAs held [] [] = ⊤
+AreToldAs held (name ∷ names) (bytes ∷ more) = IsToldAs held name bytes × AreToldAs held names more
+AreToldAs held _ _ = ⊥
+
+-- The files with these names, as far as they are told. Class files count where neither the policy nor the list is too large,
+-- and the list is UTF-8, else nothing is said of them.
+pub record AreProgramFiles (held : Held) (names : ProgramNames) (files : ProgramFiles) : Type 0 where
+  pub policy : IsToldAs held names.policy files.policy
+  pub list : IsToldAs held names.classes files.list
+  pub classes : is_large files.policy ≡ false → is_large files.list ≡ false → IsUtf8 files.list
+      → AreToldAs held (paths_of files.list) files.classes
+
+-- the class of the file with this number, or its fault
+abbrev pub class_numbered : ℕ → Result ClassFile ClassFault → Result ClassFile Refusal
+class_numbered number (Err fault) = Err (Input (Class number fault))
+class_numbered number (Ok class) = Ok class
+
+-- the class of the one file of a command; or why there is none: it is too large, or has a fault
+abbrev pub file_class : List ℕ → Result ClassFile Refusal
+file_class bytes = if is_large bytes then Err (Limit M2) else class_numbered 0 (class_of bytes)
+
+-- a class before others; what refuses it comes before what refuses these
+abbrev pub before : Result ClassFile Refusal → Result (List ClassFile) Refusal → Result (List ClassFile) Refusal
+before (Err refusal) others = Err refusal
+before (Ok class) (Err refusal) = Err refusal
+before (Ok class) (Ok others) = Ok (class ∷ others)
+
+-- the classes of these files, whose first has this number, or the first file's fault that has one
+abbrev pub classes_from : ℕ → List (List ℕ) → Result (List ClassFile) Refusal
+classes_from number [] = Ok []
+classes_from number (file ∷ more) = before (class_numbered number (class_of file)) (classes_from (suc number) more)
+
+-- the classes of a list's files; or why there are none: one is too large, or else the first that has a fault
+abbrev pub classes_of : List (List ℕ) → Result (List ClassFile) Refusal
+classes_of files = if list_any is_large files then Err (Limit M2) else classes_from 0 files
+
+-- the classes of a program, or the first that refuses its files: the size of the policy or of the list, a list that isn't
+-- UTF-8, what is said of the class files
+abbrev pub program_classes : ProgramFiles → Result (List ClassFile) Refusal
+program_classes files =
+    if is_large files.policy || is_large files.list then Err (Limit M2)
+    else if is_utf8 files.list then classes_of files.classes
+    else Err (Input NotBuilt)

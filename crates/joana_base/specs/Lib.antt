@@ -1,0 +1,4 @@
+pub mod Status
+pub mod Notes
+pub mod Files
+pub mod Reading

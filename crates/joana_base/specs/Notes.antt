@@ -1,0 +1,71 @@
+-- The lines of notes (this project's own).
+use Rattle.std.specs.Prelude.{ℕ, List, [], ◌∷◌, ◌++◌, codes}
+use Rattle.std.specs.Fmt.{decimal}
+use Rattle.class_pool.specs.declared.faults.Cut.{Cut}
+use Rattle.class_pool.specs.declared.faults.Cut.TheVariants.{Opcode, Constant, WideType, Synchronized}
+use Rattle.class_pool.specs.declared.faults.ClassCode.{ClassCode}
+use Rattle.class_pool.specs.declared.faults.ClassCode.TheVariants.{Truncated, Magic, Version, PoolTag, PoolIndex, BadText, BadDescriptor, CodeBounds, BadOpcode, Trailing, Unsupported, Memory}
+use Rattle.class_pool.specs.declared.faults.ClassFault.{ClassFault}
+use Rattle.joana_base.specs.declared.status.InputFault.{InputFault}
+use Rattle.joana_base.specs.declared.status.InputFault.TheVariants.{NotBuilt, Class}
+use Rattle.joana_base.specs.declared.status.LimitKind.{LimitKind}
+use Rattle.joana_base.specs.declared.status.LimitKind.TheVariants.{M1, M2, M3, M4, M5, M6, M7}
+use Rattle.joana_base.specs.declared.status.Refusal.{Refusal}
+use Rattle.joana_base.specs.declared.status.Refusal.TheVariants.{Input, Limit}
+
+abbrev pub words_line : List ℕ
+words_line = codes "joana: words\n"
+
+-- a read that failed, with its file's name
+abbrev pub file_line : List ℕ → List ℕ
+file_line name = codes "joana: outside " ++ name ++ codes "\n"
+
+abbrev pub output_line : List ℕ
+output_line = codes "joana: outside output\n"
+
+-- want of memory is no fault of a file, so it has no name
+abbrev pub code_word : ClassCode → List ℕ
+code_word Truncated = codes "C1"
+code_word Magic = codes "C2"
+code_word Version = codes "C3"
+code_word PoolTag = codes "C4"
+code_word PoolIndex = codes "C5"
+code_word BadText = codes "C6"
+code_word BadDescriptor = codes "C7"
+code_word CodeBounds = codes "C8"
+code_word BadOpcode = codes "C9"
+code_word Trailing = codes "C10"
+code_word (Unsupported cut) = codes "C11"
+code_word Memory = []
+
+-- what the profile cuts
+abbrev pub cut_words : Cut → List ℕ
+cut_words (Opcode op) = codes " opcode " ++ decimal op
+cut_words (Constant index) = codes " constant " ++ decimal index
+cut_words WideType = codes " type"
+cut_words Synchronized = codes " synchronized"
+
+abbrev pub detail : ClassCode → List ℕ
+detail (Unsupported cut) = cut_words cut
+detail _ = []
+
+-- the fault of a class file: its code, the file's number in the order of the list, the place
+abbrev pub class_words : ℕ → ClassFault → List ℕ
+class_words file fault = code_word fault.code ++ 32 ∷ decimal file ++ 32 ∷ decimal fault.place ++ detail fault.code
+
+abbrev pub fault_words : InputFault → List ℕ
+fault_words NotBuilt = codes "NotBuilt"
+fault_words (Class file fault) = class_words file fault
+
+abbrev pub limit_word : LimitKind → List ℕ
+limit_word M1 = codes "M1"
+limit_word M2 = codes "M2"
+limit_word M3 = codes "M3"
+limit_word M4 = codes "M4"
+limit_word M5 = codes "M5"
+limit_word M6 = codes "M6"
+limit_word M7 = codes "M7"
+
+abbrev pub refusal_line : Refusal → List ℕ
+refusal_line (Input fault) = codes "joana: input " ++ fault_words fault ++ codes "\n"
+refusal_line (Limit kind) = codes "joana: limit " ++ limit_word kind ++ codes "\n"

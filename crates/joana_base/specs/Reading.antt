@@ -1,0 +1,141 @@
+-- What reading the files of a command answers and leaves.
+use Rattle.std.specs.Prelude.{◌≡◌, ℕ, zero, suc, ◌+◌, ◌^◌, ◌<◌, ◌≤◌, false, List, [], ◌∷◌, length, map, Option, Some, Result, Ok, Err, slice_get, Vec, string_bytes, ⊤}
+use Rattle.std.specs.Str.{IsUtf8}
+use Rattle.std.specs.declared.alloc.Global.{Global}
+use Rattle.jo_io.specs.Counts.{Rose}
+use Rattle.jo_io.specs.declared.files.FileFault.{FileFault}
+use Rattle.jo_io.specs.declared.files.FileFault.TheVariants as faults
+use Rattle.class_pool.specs.declared.classes.ClassFile.{ClassFile}
+use Rattle.class_pool.specs.ClassGrammar.{IsClass}
+use Rattle.joana_base.specs.Files.{Held, ProgramNames, ProgramFiles, paths_of, is_large, IsToldAs, AreToldAs, AreProgramFiles, program_classes}
+use Rattle.joana_base.specs.declared.status.Refusal.{Refusal}
+use Rattle.joana_base.specs.declared.status.Refusal.TheVariants.{Input}
+use Rattle.joana_base.specs.declared.status.InputFault.TheVariants.{NotBuilt}
+use Rattle.joana_base.specs.declared.reading.ProgramFiles as memory
+use Rattle.joana_base.specs.declared.answers.Stop.{Stop}
+use Rattle.joana_base.specs.declared.answers.Stop.TheVariants.{Faulty, Unread, Memory}
+
+-- the bytes of files in memory
+abbrev pub all_bytes : List (Vec ℕ Global) → List (List ℕ)
+all_bytes files = map (λ (file : Vec ℕ Global). file.items) files
+
+abbrev pub in_bytes : memory.ProgramFiles → ProgramFiles
+in_bytes files = record { policy = files.policy.items; list = files.list.items; classes = all_bytes files.classes.items }
+
+-- ---- the files' count
+
+-- some reads: what the files hold before them, how often the outside has failed before and after them, and the name of the
+-- last read that has failed after them
+pub record FilesChange : Type 0 where
+  pub held : Held
+  pub faults_before : ℕ
+  pub faults_after : ℕ
+  pub last_failed : List ℕ
+
+abbrev pub change_of : Held → ℕ → ℕ → List ℕ → FilesChange
+change_of held before after failed =
+    record { held = held; faults_before = before; faults_after = after; last_failed = failed }
+
+abbrev pub files_change : {F : Type 0} → (F → Held) → (F → ℕ) → (F → List ℕ) → F → F → FilesChange
+files_change held faults failed old new = change_of (held old) (faults old) (faults new) (failed new)
+
+-- why a read with that number and name stops the run
+abbrev pub StopsAt : ℕ → List ℕ → FileFault → Stop → Type 0
+StopsAt number name faults.Failed (Unread u) = (u.number ≡ number) × (string_bytes u.name ≡ name)
+StopsAt number name faults.Failed Memory = ⊤
+StopsAt number name faults.Failed (Faulty refusal) = ⊥
+StopsAt number name faults.Memory stop = stop ≡ Memory
+
+-- The count rises with a failed read, whose name is the last that failed, and stays else. Memory may want at any time, also
+-- for the failed read's name.
+abbrev pub AfterReads : {T : Type 0} → (ℕ → List ℕ → Type 0) → Result T Stop → FilesChange → Type 0
+AfterReads IsName (Ok value) files = files.faults_after ≡ files.faults_before
+AfterReads IsName (Err (Faulty refusal)) files = files.faults_after ≡ files.faults_before
+AfterReads IsName (Err (Unread u)) files =
+    Rose files.faults_before files.faults_after × IsName u.number files.last_failed × (string_bytes u.name ≡ files.last_failed)
+AfterReads IsName (Err Memory) files = files.faults_before ≤ files.faults_after
+
+-- one read, with this number and name
+abbrev pub AfterRead : {T : Type 0} → ℕ → List ℕ → Result T Stop → FilesChange → Type 0
+AfterRead number path result files = AfterReads (λ n name. (n ≡ number) × (name ≡ path)) result files
+
+-- the read of a path: they have numbers from 2 on
+abbrev pub IsReadOf : List (List ℕ) → ℕ → List ℕ → Type 0
+IsReadOf paths number name = (k : ℕ) × (number ≡ k + 2) × (slice_get paths k ≡ Some name)
+
+abbrev pub AfterPathReads : {T : Type 0} → List (List ℕ) → Result T Stop → FilesChange → Type 0
+AfterPathReads paths result files = AfterReads (IsReadOf paths) result files
+
+-- the reads of the paths of a list, which is text and not too large
+abbrev pub AfterListReads : {T : Type 0} → List ℕ → Result T Stop → FilesChange → Type 0
+AfterListReads list result files =
+    AfterReads (λ number name. (is_large list ≡ false) × IsUtf8 list × IsReadOf (paths_of list) number name) result files
+
+-- The read of the path with this number in the class list: neither the policy nor the list is too large, and the list is
+-- UTF-8.
+pub record IsPathRead (held : Held) (names : ProgramNames) (k : ℕ) (name : List ℕ) : Type 0 where
+  pub policy : List ℕ
+  pub policy_told : IsToldAs held names.policy policy
+  pub list : List ℕ
+  pub list_told : IsToldAs held names.classes list
+  pub small_policy : is_large policy ≡ false
+  pub small_list : is_large list ≡ false
+  pub text : IsUtf8 list
+  pub path : slice_get (paths_of list) k ≡ Some name
+
+-- the name of the read with that number: the policy, the class list, then the paths of the list
+abbrev pub IsProgramRead : Held → ProgramNames → ℕ → List ℕ → Type 0
+IsProgramRead held names zero name = name ≡ names.policy
+IsProgramRead held names (suc zero) name = name ≡ names.classes
+IsProgramRead held names (suc (suc k)) name = IsPathRead held names k name
+
+abbrev pub AfterProgramReads : {T : Type 0} → ProgramNames → Result T Stop → FilesChange → Type 0
+AfterProgramReads names result files = AfterReads (IsProgramRead files.held names) result files
+
+-- ---- what was read
+
+-- a read stops only where it fails or memory is wanting
+abbrev pub ReadsFile : Held → List ℕ → Result (Vec ℕ Global) Stop → Type 0
+ReadsFile held name (Ok bytes) = IsToldAs held name bytes.items
+ReadsFile held name (Err (Faulty refusal)) = ⊥
+ReadsFile held name (Err stop) = ⊤
+
+abbrev pub ReadsPaths : Held → List (List ℕ) → Result (Vec (Vec ℕ Global) Global) Stop → Type 0
+ReadsPaths held paths (Ok classes) = AreToldAs held paths (all_bytes classes.items)
+ReadsPaths held paths (Err (Faulty refusal)) = ⊥
+ReadsPaths held paths (Err stop) = ⊤
+
+-- the class files of a list, which is UTF-8
+abbrev pub ReadsList : Held → List ℕ → Result (Vec (Vec ℕ Global) Global) Stop → Type 0
+ReadsList held list (Ok classes) = IsUtf8 list × AreToldAs held (paths_of list) (all_bytes classes.items)
+ReadsList held list (Err (Faulty refusal)) = (refusal ≡ Input NotBuilt) × ¬ IsUtf8 list
+ReadsList held list (Err stop) = ⊤
+
+-- the files were read, and nothing refuses them before the class files are looked at
+pub record AreReadable (files : ProgramFiles) : Type 0 where
+  pub policy : is_large files.policy ≡ false
+  pub list : is_large files.list ≡ false
+  pub text : IsUtf8 files.list
+  pub few : length files.classes < 2 ^ 32
+
+-- the files of a program were read; or they are refused
+abbrev pub ReadsProgram : Held → ProgramNames → Result memory.ProgramFiles Stop → Type 0
+ReadsProgram held names (Ok files) = AreReadable (in_bytes files) × AreProgramFiles held names (in_bytes files)
+ReadsProgram held names (Err (Faulty refusal)) =
+    (files : ProgramFiles) × AreProgramFiles held names files × (program_classes files ≡ Err refusal)
+ReadsProgram held names (Err stop) = ⊤
+
+-- ---- the classes of files that were read
+
+-- each file with its class
+abbrev pub AreClasses : List (List ℕ) → List ClassFile → Type 0
+AreClasses [] [] = ⊤
+AreClasses (file ∷ files) (class ∷ classes) = IsClass file class × AreClasses files classes
+AreClasses _ _ = ⊥
+
+-- what is wanted of files that have been read, or what refuses them, unless memory is wanting
+abbrev pub IsUnlessMemory : {A : Type 0} → Result A Stop → Result A Refusal → Type 0
+IsUnlessMemory (Ok found) wanted = wanted ≡ Ok found
+IsUnlessMemory (Err (Faulty refusal)) wanted = wanted ≡ Err refusal
+IsUnlessMemory (Err (Unread unread)) wanted = ⊥
+IsUnlessMemory (Err Memory) wanted = ⊤

@@ -1,0 +1,132 @@
+//! The lines of notes that say what refuses a command.
+ghost use Rattle.std.specs.Prelude.{◌≡◌, ◌++◌, OnOk, IfOk, codes};
+ghost use Rattle.std.specs.Fmt.{decimal};
+ghost use Rattle.joana_base.specs.Notes;
+
+use crate::status::{InputFault, LimitKind, Refusal};
+use class_pool::{ClassCode, ClassFault, Cut};
+use std::alloc::{AllocError as Memory, Global};
+
+fn push_number(alloc: Global, out: &mut Vec<u8>, n: u32) -> Result<(), Memory>
+    ensures { OnOk result (out.new.items ≡ out.old.items ++ decimal n) }
+{
+    let digits = n.to_string(alloc)?;
+    out.extend_from_slice(digits.as_bytes())
+}
+
+/// The name of a code. Want of memory is no fault of a file and has none.
+fn code_word(code: ClassCode) -> &'static [u8]
+    ensures { result.now ≡ Notes.code_word code }
+{
+    match code {
+        ClassCode::Truncated => b"C1",
+        ClassCode::Magic => b"C2",
+        ClassCode::Version => b"C3",
+        ClassCode::PoolTag => b"C4",
+        ClassCode::PoolIndex => b"C5",
+        ClassCode::BadText => b"C6",
+        ClassCode::BadDescriptor => b"C7",
+        ClassCode::CodeBounds => b"C8",
+        ClassCode::BadOpcode => b"C9",
+        ClassCode::Trailing => b"C10",
+        ClassCode::Unsupported(_) => b"C11",
+        ClassCode::Memory => b"",
+    }
+}
+
+/// What the profile cuts.
+fn push_cut(alloc: Global, out: &mut Vec<u8>, cut: Cut) -> Result<(), Memory>
+    ensures { OnOk result (out.new.items ≡ out.old.items ++ Notes.cut_words cut) }
+{
+    match cut {
+        Cut::Opcode(op) => {
+            out.extend_from_slice(b" opcode ")?;
+            push_number(alloc, out, u32::from(op))
+        }
+        Cut::Constant(index) => {
+            out.extend_from_slice(b" constant ")?;
+            push_number(alloc, out, u32::from(index))
+        }
+        Cut::WideType => out.extend_from_slice(b" type"),
+        Cut::Synchronized => out.extend_from_slice(b" synchronized"),
+    }
+}
+
+fn push_detail(alloc: Global, out: &mut Vec<u8>, code: ClassCode) -> Result<(), Memory>
+    ensures { OnOk result (out.new.items ≡ out.old.items ++ Notes.detail code) }
+{
+    match code {
+        ClassCode::Unsupported(cut) => push_cut(alloc, out, cut),
+        _ => Ok(()),
+    }
+}
+
+/// The fault of the class file with that number.
+fn push_class_fault(
+    alloc: Global,
+    out: &mut Vec<u8>,
+    file: u32,
+    fault: ClassFault,
+) -> Result<(), Memory>
+    ensures { OnOk result (out.new.items ≡ out.old.items ++ Notes.class_words file fault) }
+{
+    out.extend_from_slice(code_word(fault.code))?;
+    out.push(b' ')?;
+    push_number(alloc, out, file)?;
+    out.push(b' ')?;
+    push_number(alloc, out, fault.place)?;
+    push_detail(alloc, out, fault.code)
+}
+
+fn push_fault(alloc: Global, out: &mut Vec<u8>, fault: InputFault) -> Result<(), Memory>
+    ensures { OnOk result (out.new.items ≡ out.old.items ++ Notes.fault_words fault) }
+{
+    match fault {
+        InputFault::NotBuilt => out.extend_from_slice(b"NotBuilt"),
+        InputFault::Class(file, fault) => push_class_fault(alloc, out, file, fault),
+    }
+}
+
+fn limit_word(kind: LimitKind) -> &'static [u8]
+    ensures { result.now ≡ Notes.limit_word kind }
+{
+    match kind {
+        LimitKind::M1 => b"M1",
+        LimitKind::M2 => b"M2",
+        LimitKind::M3 => b"M3",
+        LimitKind::M4 => b"M4",
+        LimitKind::M5 => b"M5",
+        LimitKind::M6 => b"M6",
+        LimitKind::M7 => b"M7",
+    }
+}
+
+fn input_line(alloc: Global, fault: InputFault) -> Result<Vec<u8>, Memory>
+    ensures { IfOk result (λ line. line.items ≡ codes "joana: input " ++ Notes.fault_words fault ++ codes "\n") }
+{
+    let mut line = Vec::new(alloc);
+    line.extend_from_slice(b"joana: input ")?;
+    push_fault(alloc, &mut line, fault)?;
+    line.push(b'\n')?;
+    Ok(line)
+}
+
+fn limit_line(alloc: Global, kind: LimitKind) -> Result<Vec<u8>, Memory>
+    ensures { IfOk result (λ line. line.items ≡ codes "joana: limit " ++ Notes.limit_word kind ++ codes "\n") }
+{
+    let mut line = Vec::new(alloc);
+    line.extend_from_slice(b"joana: limit ")?;
+    line.extend_from_slice(limit_word(kind))?;
+    line.push(b'\n')?;
+    Ok(line)
+}
+
+/// The line that says what refuses a command.
+pub fn refusal_line(alloc: Global, refusal: Refusal) -> Result<Vec<u8>, Memory>
+    ensures { IfOk result (λ line. line.items ≡ Notes.refusal_line refusal) }
+{
+    match refusal {
+        Refusal::Input(fault) => input_line(alloc, fault),
+        Refusal::Limit(kind) => limit_line(alloc, kind),
+    }
+}

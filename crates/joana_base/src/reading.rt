@@ -1,0 +1,146 @@
+//! The files of a command, read in their order.
+ghost use Rattle.std.specs.Prelude.{◌≡◌, ◌+◌, ◌^◌, ◌<◌, false, length, ℕ, List};
+ghost use Rattle.std.specs.List.{AllByRecursion};
+ghost use Rattle.std.specs.Str.{IsUtf8};
+ghost use Rattle.joana_base.specs.Files.{is_large as is_too_large, names_of};
+ghost use Rattle.joana_base.specs.Reading.{files_change, StopsAt, AfterRead, AfterPathReads, AfterListReads, AfterProgramReads, ReadsFile, ReadsPaths, ReadsList, ReadsProgram};
+
+use crate::answers::{Stop, Unread};
+use crate::status::{InputFault, LimitKind, Refusal};
+use jo_io::{FileFault, Files};
+use jo_text::{ListFault, Name, split_lines};
+use std::alloc::Global;
+
+/// How many bytes a file may have.
+const LARGEST: usize = 1_048_576;
+
+/// Whether a file has more bytes than it may have.
+pub fn is_large(bytes: &[u8]) -> bool
+    ensures { result ≡ is_too_large bytes.now }
+{
+    bytes.len() > LARGEST
+}
+
+/// The names of the files that make a program and say what it may show.
+#[derive(Clone, Copy)]
+pub struct ProgramNames<'a> {
+    pub classes: &'a str,
+    pub policy: &'a str,
+}
+
+/// These files, the class files in the order of the list.
+#[derive(Drop)]
+pub struct ProgramFiles {
+    pub policy: Vec<u8>,
+    pub list: Vec<u8>,
+    pub classes: Vec<Vec<u8>>,
+}
+
+/// The stop at a read with that number and name.
+fn stop_at(alloc: Global, number: u32, name: &str, fault: FileFault) -> Stop
+    ensures { StopsAt number name.now fault result }
+{
+    match fault {
+        FileFault::Failed => match String::from_str(alloc, name) {
+            Ok(name) => Stop::Unread(Unread { number, name }),
+            Err(_) => Stop::Memory,
+        },
+        FileFault::Memory => Stop::Memory,
+    }
+}
+
+/// Reads the file with that name, which is the read with this number.
+pub fn read_file<F: Files>(
+    alloc: Global,
+    files: &mut F,
+    number: u32,
+    name: &str,
+) -> Result<Vec<u8>, Stop>
+    ensures after { AfterRead number name.now result (files_change F.held F.faults F.failed files.old files.new) }
+    ensures read { ReadsFile (F.held files.old) name.now result }
+    ensures held { (other : List ℕ) → F.held files.new other ≡ F.held files.old other }
+{
+    match files.read(alloc, name) {
+        Ok(bytes) => Ok(bytes),
+        Err(fault) => Err(stop_at(alloc, number, name, fault)),
+    }
+}
+
+/// Reads the file with that path, which is a line of a text.
+fn read_path<F: Files>(
+    alloc: Global,
+    files: &mut F,
+    number: u32,
+    path: &[u8],
+) -> Result<Vec<u8>, Stop>
+    requires { IsUtf8 path.now }
+    ensures after { AfterRead number path.now result (files_change F.held F.faults F.failed files.old files.new) }
+    ensures read { ReadsFile (F.held files.old) path.now result }
+    ensures held { (other : List ℕ) → F.held files.new other ≡ F.held files.old other }
+{
+    let name = unsafe { std::str::from_utf8_unchecked(path) };
+    read_file(alloc, files, number, name)
+}
+
+/// Reads the file of each path in turn.
+fn read_paths<F: Files>(alloc: Global, files: &mut F, paths: &[Name]) -> Result<Vec<Vec<u8>>, Stop>
+    requires few { length paths.now + 2 < 2 ^ 32 }
+    requires texts { AllByRecursion IsUtf8 paths.now }
+    ensures after { AfterPathReads paths.now result (files_change F.held F.faults F.failed files.old files.new) }
+    ensures read { ReadsPaths (F.held files.old) paths.now result }
+{
+    let mut classes = Vec::new(alloc);
+    for (place, path) in paths.iter().enumerate() {
+        match read_path(alloc, files, place as u32 + 2, path.as_slice()) {
+            Ok(bytes) => match classes.push(bytes) {
+                Ok(()) => {}
+                Err(_) => return Err(Stop::Memory),
+            },
+            Err(stop) => return Err(stop),
+        }
+    }
+    Ok(classes)
+}
+
+/// Reads the class files of a list.
+fn read_list<F: Files>(alloc: Global, files: &mut F, list: &[u8]) -> Result<Vec<Vec<u8>>, Stop>
+    requires { is_too_large list.now ≡ false }
+    ensures after { AfterListReads list.now result (files_change F.held F.faults F.failed files.old files.new) }
+    ensures read { ReadsList (F.held files.old) list.now result }
+{
+    match split_lines(alloc, list) {
+        Ok(paths) => read_paths(alloc, files, paths.as_slice()),
+        Err(ListFault::NotUtf8(_)) => Err(Stop::Faulty(Refusal::Input(InputFault::NotBuilt))),
+        Err(ListFault::Memory) => Err(Stop::Memory),
+    }
+}
+
+/// Reads the policy, the class list, and its class files where neither of the two is too large.
+pub fn read_program<F: Files>(
+    alloc: Global,
+    files: &mut F,
+    names: ProgramNames<'_>,
+) -> Result<ProgramFiles, Stop>
+    ensures after { AfterProgramReads (names_of names.entry) result (files_change F.held F.faults F.failed files.old files.new) }
+    ensures read { ReadsProgram (F.held files.old) (names_of names.entry) result }
+{
+    let policy = match read_file(alloc, files, 0, names.policy) {
+        Ok(policy) => policy,
+        Err(stop) => return Err(stop),
+    };
+    let list = match read_file(alloc, files, 1, names.classes) {
+        Ok(list) => list,
+        Err(stop) => return Err(stop),
+    };
+    if is_large(policy.as_slice()) || is_large(list.as_slice()) {
+        return Err(Stop::Faulty(Refusal::Limit(LimitKind::M2)));
+    }
+    match read_list(alloc, files, list.as_slice()) {
+        Ok(classes) => Ok(ProgramFiles {
+            policy,
+            list,
+            classes,
+        }),
+        Err(stop) => Err(stop),
+    }
+}

@@ -1,5 +1,0 @@
-use Rattle.joana_top.proofs.FileClasses.{ReadsOn}
-use Rattle.joana_top.proofs.classes.classes_in_order.Given as goal
-
-abbrev pub invariant-loop-number : goal.invariant-loop-number
-invariant-loop-number l = ReadsOn l.files l.classes l.number

@@ -1,0 +1,16 @@
+use Rattle.joana_base.specs.Files.{names_of}
+use Rattle.joana_base.specs.Reading.{in_bytes, files_change, IsProgramRead}
+use Rattle.joana_top.specs.Check.{IsVerdictOn, IsRefusalOf}
+use Rattle.joana_top.proofs.Outcomes.{quiet_outcome, check_outcome}
+use Rattle.joana_top.proofs.commands.check.run.Goals as goal
+
+pub returns-in-Ok-clause-after : goal.returns-in-Ok-clause-after
+returns-in-Ok-clause-after g c =
+    let held = g.F.Files.held c.args.files.now in
+    let files = in_bytes c.in-Ok.read in
+    quiet_outcome (IsVerdictOn files) (IsRefusalOf files) (IsProgramRead held (names_of c.args.names)) c.check_files.result
+    (files_change g.F.Files.held g.F.Files.faults g.F.Files.failed c.args.files.now c.read_program.new.files) c.in-Ok.ensures.after c.check_files.ensures
+
+pub returns-in-Ok-clause-outcome : goal.returns-in-Ok-clause-outcome
+returns-in-Ok-clause-outcome g c =
+    check_outcome (g.F.Files.held c.args.files.now) (names_of c.args.names) (in_bytes c.in-Ok.read) c.check_files.result c.in-Ok.ensures.read.1 c.check_files.ensures

@@ -1,5 +1,0 @@
-use Rattle.joana_top.proofs.Reading.{PathsRead}
-use Rattle.joana_top.proofs.input.read_paths.Given as goal
-
-abbrev pub invariant-loop-place : goal.invariant-loop-place
-invariant-loop-place g l = PathsRead (g.F.Files.held l.fn.files) (g.F.Files.held l.files) (g.F.Files.faults l.fn.files) (g.F.Files.faults l.files) l.paths l.classes.items l.place

@@ -1,0 +1,41 @@
+-- What is said of each command.
+use Rattle.std.specs.Prelude.{ℕ, List, Result}
+use Rattle.joana_base.specs.Files.{Held}
+use Rattle.joana_base.specs.Reading.{FilesChange, IsProgramRead, AfterReads}
+use Rattle.joana_base.specs.declared.status.Status.{Status}
+use Rattle.joana_base.specs.declared.status.Refusal.{Refusal}
+use Rattle.joana_base.specs.declared.answers.Answer.{Answer}
+use Rattle.joana_base.specs.declared.answers.Stop.{Stop}
+use Rattle.joana_top.specs.Words.{Command}
+use Rattle.joana_top.specs.Words.Command.{check, dis}
+use Rattle.joana_top.specs.Answers.{IsOutcome}
+use Rattle.joana_top.specs.Check.{IsCheckText, CheckShows, CheckRefuses}
+use Rattle.joana_top.specs.Dis.{IsDisRead, IsDisText, DisShows, DisRefuses}
+
+-- the name of the read with that number
+abbrev pub IsReadName : Held → Command → ℕ → List ℕ → Type 0
+IsReadName held (check names) number name = IsProgramRead held names number name
+IsReadName held (dis file) number name = IsDisRead file number name
+
+-- the texts that it may show with a status
+abbrev pub IsTextOf : Command → Status → List ℕ → Type 0
+IsTextOf (check names) status text = IsCheckText status text
+IsTextOf (dis file) status text = IsDisText status text
+
+-- what a text with a status says of its files
+abbrev pub Shows : Held → Command → Status → List ℕ → Type 0
+Shows held (check names) status text = CheckShows held names status text
+Shows held (dis file) status text = DisShows held file status text
+
+-- what refuses its files
+abbrev pub Refuses : Held → Command → Refusal → Type 0
+Refuses held (check names) refusal = CheckRefuses held names refusal
+Refuses held (dis file) refusal = DisRefuses held file refusal
+
+-- ---- what the parts of the code say
+
+abbrev pub AfterCommandReads : {T : Type 0} → Command → Result T Stop → FilesChange → Type 0
+AfterCommandReads command result files = AfterReads (IsReadName files.held command) result files
+
+abbrev pub IsCommandOutcome : Held → Command → Result Answer Stop → Type 0
+IsCommandOutcome held command result = IsOutcome (Shows held command) (Refuses held command) result
