@@ -29,7 +29,7 @@ use Rattle.dependence.specs.declared.flow.Place.TheVariants.{Stack}
 use Rattle.dep_nodes.specs.declared.kinds.NodeKind.{NodeKind}
 use Rattle.dep_nodes.specs.declared.kinds.NodeKind.TheVariants.{Entry, Instr, Call, RetVal, Arg}
 use Rattle.dep_nodes.specs.declared.kinds.EdgeKind.TheVariants.{Data}
-use Rattle.dependence.specs.Paths.{stays, steps}
+use Rattle.jo_ids.specs.Path.{stays, goes}
 use Rattle.dependence.specs.Dependence.{one, more}
 use Rattle.dependence.specs.Flow.{node_of, node_at, falls_through, calls_native, FlowEdge, begins, falls, calls, arrives as arrives_at, IsFlowNode, FlowReaches, reads_of, by_instr as reads_here, Writes, by_instr as writes_here, by_result, ArgumentPlace, of_argument}
 use Rattle.dep_nodes.specs.Nodes.{node}
@@ -491,7 +491,7 @@ module _ (program : Program) (labels : Labels) (plain : IsPlainProgram program l
     shape = shape_at_start code;
     arrives = at_start;
     plain_on = plain.plain;
-    flow = steps Entry (node_at program m 0) (node_at program m 0) (begins (node_at program m 0) refl) (stays (node_at program m 0));
+    flow = goes Entry (node_at program m 0) (node_at program m 0) (begins (node_at program m 0) refl) (stays (node_at program m 0));
   }
 
   abbrev no_ints : Store
