@@ -3,7 +3,7 @@ use Rattle.std.proofs.Common.{◌≡◌, ◌∙◌, inl, inr, ℕ, ◌<◌, ◌�
 use Rattle.class_pool.specs.declared.classes.ClassFile.{ClassFile}
 use Rattle.jo_prog.specs.declared.program.Program.{Program}
 use Rattle.jo_prog.specs.declared.labels.Labels.{Labels}
-use Rattle.low_run.proofs.CleanRuns.{clean_secure}
+use Rattle.low_run.proofs.Verdicts.{clean_graph_secure}
 use Rattle.joana_base.specs.Files.{Held, ProgramNames, ProgramFiles, AreProgramFiles, IsToldAs, program_classes, classes_of}
 use Rattle.joana_base.specs.Reading.{FilesChange, AfterReads, AreClasses, AreReadable, IsUnlessMemory}
 use Rattle.joana_base.specs.declared.status.Status.{Status}
@@ -112,7 +112,7 @@ module _ (files : ProgramFiles) (ready : AreReadable files) where
 -- ---- what is shown of a check
 
 report_text : (program : Program) (labels : Labels) (text : List ℕ) → IsReportOf program labels text → IsReportText text
-report_text program labels text r = (program, labels, r.observer, r.from, r.links, r.text_is)
+report_text program labels text r = (program, labels, r.2.observer, r.2.from, r.2.links, r.2.text_is)
 
 pub check_text : (held : Held) (names : ProgramNames) (status : Status) (text : List ℕ) → CheckShows held names status text → IsCheckText status text
 check_text held names statuses.Done text shows = shows.2.0
@@ -122,4 +122,4 @@ check_text held names _ text shows = absurd shows.2
 pub check_secure : (held : Held) (names : ProgramNames) (text : List ℕ) → CheckShows held names statuses.Done text → IsSecureCheck held names statuses.Done
 check_secure held names text shows =
     let verdict = shows.2 in
-    (shows.0, shows.1, verdict.1, verdict.2, verdict.3, clean_secure verdict.1 verdict.2 verdict.3.form.plain verdict.4)
+    (shows.0, shows.1, verdict.1, verdict.2, verdict.3, verdict.4, clean_graph_secure verdict.1 verdict.2 verdict.3.form.plain verdict.4)

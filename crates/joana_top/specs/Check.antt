@@ -20,10 +20,10 @@ use Rattle.jo_prog.specs.PlainCode.{IsPlainFrom, IsPlainProgram}
 use Rattle.jo_prog.specs.Typing.{IsTyped}
 use Rattle.linker.specs.Linking.{program_of, this_name, super_name}
 use Rattle.jo_policy.specs.PolicyFile.{policy_of}
-use Rattle.dependence.specs.Graph.{Node}
-use Rattle.dependence.specs.Chains.{Link}
+use Rattle.dep_nodes.specs.Nodes.{Node}
+use Rattle.dep_nodes.specs.Chains.{Link}
 use Rattle.chain_report.specs.Report.{chain_text}
-use Rattle.low_run.specs.Verdict.{CleanForAll, Reports}
+use Rattle.low_run.specs.Verdict.{HasCleanGraph, HasReport}
 use Rattle.low_run.specs.Security.{Secure}
 use Rattle.joana_base.specs.Files.{Held, ProgramNames, ProgramFiles, AreProgramFiles, program_classes}
 use Rattle.joana_base.specs.declared.status.Status.{Status}
@@ -41,13 +41,13 @@ use Rattle.joana_top.specs.declared.commands.check.Decision.TheVariants.{NotBuil
 
 -- ---- the program
 
--- no observer has an illegal chain in the program
+-- its dependence graph is clean for each observer
 abbrev pub IsClean : Program → Labels → Type 0
-IsClean program labels = CleanForAll program labels
+IsClean program labels = HasCleanGraph program labels
 
 -- the text reports an illegal chain of the first observer that has one
 abbrev pub IsReportOf : Program → Labels → List ℕ → Type 0
-IsReportOf program labels text = Reports program labels text
+IsReportOf program labels text = HasReport program labels text
 
 -- the class is no class of the prelude, and its superclass is java/lang/Object
 abbrev pub is_under_object : ClassFile → Bool
@@ -122,11 +122,11 @@ abbrev pub CheckShows : Held → ProgramNames → Status → List ℕ → Type 0
 CheckShows held names status text =
     (files : ProgramFiles) × AreProgramFiles held names files × IsVerdictOn files status text
 
--- accepted: such files make a program, and it is secure
+-- accepted: such files make a program, which is clean, and it is secure
 abbrev pub IsSecureCheck : Held → ProgramNames → Status → Type 0
 IsSecureCheck held names statuses.Done =
     (files : ProgramFiles) × AreProgramFiles held names files × (program : Program) × (labels : Labels)
-    × IsInput files program labels × Secure program labels
+    × IsInput files program labels × IsClean program labels × Secure program labels
 IsSecureCheck held names status = ⊤
 
 -- ---- what refuses its files
