@@ -1,9 +1,8 @@
 -- The instructions of some code, found one behind another.
-use Rattle.std.proofs.Common.{◌≡◌, ℕ, zero, suc, ◌+◌, ◌<◌, ◌≤◌, Bool, List, [], ◌∷◌, ◌++◌, length, get_or, drop, Result, Ok, Err, refl, add-one, drop-cons, sym, ap, subst, ◌∙◌, append_assoc, arith}
+use Rattle.std.proofs.Common.{◌≡◌, ℕ, zero, suc, ◌+◌, ◌≤◌, Bool, List, [], ◌∷◌, ◌++◌, length, Result, Ok, Err, refl, sym, ap, subst, ◌∙◌, append_assoc, arith}
 use Rattle.std.proofs.lemmas.List.{append-nil}
 use Rattle.std.specs.List.{AllByRecursion, flat_map}
 use Rattle.jo_insn.specs.declared.instructions.Insn.{Insn}
-use Rattle.jo_insn.specs.declared.instructions.Insn.TheVariants.{Plain}
 use Rattle.jo_insn.specs.declared.instructions.InsnFault.{InsnFault}
 use Rattle.jo_insn.specs.Instructions.{decoded}
 use Rattle.jo_insn.proofs.DecodedMoves.{decoded-moves}
@@ -59,10 +58,3 @@ module _ (code : List ℕ) where
       let moves = decoded-moves code p.pc p.next p.insn all.0 in
       let here : one p.pc ≡ other p.pc = same p.pc (omega arith) in
       rw (here, same_lines pool one other same more all.1) refl
-
--- what stands past the end of a list of instructions
-abbrev pub past : Placed
-past = record { pc = 0; insn = Plain 0; next = 0 }
-
-pub split : (insns : List Placed) (i : ℕ) (d : Placed) → i < length insns → drop i insns ≡ get_or insns i d ∷ drop (i + 1) insns
-split insns i d more = rw (add-one, drop-cons insns i d) refl

@@ -6,10 +6,10 @@ use Rattle.std.proofs.lemmas.List.{length-replicate}
 use Rattle.jo_insn.specs.declared.jumps.Placed.{Placed}
 use Rattle.jo_insn.specs.Marks.{marked}
 use Rattle.jo_insn.proofs.PcMarkLemmas.{marked_append, length_marked, all_marks}
+use Rattle.jo_insn.proofs.PlacedSteps.{split}
 use Rattle.class_pool.specs.declared.classes.CodeInfo.{CodeInfo}
 use Rattle.class_dis.specs.Insns.{insns_of}
 use Rattle.class_dis.specs.Labels.{targets_in, bounds_of, labels_of, AreLabels}
-use Rattle.class_dis.proofs.InsnSteps.{split}
 
 pub jump_marks : (code : List ℕ) (before now all : List Bool) (insns : List Placed) (i : ℕ) (d : Placed) → i < length insns → now ≡ marked before (targets_in code (get_or insns i d))
     → marked before (flat_map (targets_in code) (drop i insns)) ≡ all → marked now (flat_map (targets_in code) (drop (i + 1) insns)) ≡ all

@@ -1,25 +1,18 @@
 -- The jumps of the instructions of some code, one instruction after another.
-use Rattle.std.proofs.Common.{◌≡◌, ℕ, ◌+◌, ◌<◌, Bool, true, false, List, [], ◌∷◌, length, drop, get_or, Some, refl, sym, ap, ◌∙◌, add-one, drop-cons}
+use Rattle.std.proofs.Common.{◌≡◌, ℕ, ◌+◌, ◌<◌, Bool, true, false, List, [], ◌∷◌, length, drop, get_or, Some, refl, sym, ap, ◌∙◌}
 use Rattle.std.specs.Prelude.{ℤ, pos, ◌+ℤ◌, map}
 use Rattle.std.specs.List.{AllByRecursion, list_all}
-use Rattle.jo_insn.specs.declared.instructions.Insn.TheVariants.{Plain}
 use Rattle.jo_insn.specs.declared.jumps.Placed.{Placed}
 use Rattle.jo_insn.specs.Jumps.{IsPlacedIn, jumps_of, targets_of, is_start}
 use Rattle.jo_insn.specs.Marks.{is_marked, starts_of}
 use Rattle.jo_insn.proofs.PcMarkLemmas.{marks_are_starts}
+use Rattle.jo_insn.proofs.PlacedSteps.{split}
 use Rattle.class_pool.specs.Code.{jumps_well, first_bad_jump}
 
 same_jumps : (marks : List Bool) (all : List Placed) (pc : ℕ) → ((t : ℤ) → is_marked marks t ≡ is_start all t) → (jumps : List ℤ)
     → list_all (is_marked marks) (map (λ by. pos pc +ℤ by) jumps) ≡ list_all (λ by. is_start all (pos pc +ℤ by)) jumps
 same_jumps marks all pc same [] = refl
 same_jumps marks all pc same (by ∷ more) = rw (same (pos pc +ℤ by), same_jumps marks all pc same more) refl
-
--- what stands past the end of a list of instructions
-abbrev pub past : Placed
-past = record { pc = 0; insn = Plain 0; next = 0 }
-
-pub split : (insns : List Placed) (i : ℕ) (d : Placed) → i < length insns → drop i insns ≡ get_or insns i d ∷ drop (i + 1) insns
-split insns i d more = rw (add-one, drop-cons insns i d) refl
 
 module _ (code : List ℕ) (marks : List Bool) (insns : List Placed) (placed : AllByRecursion (IsPlacedIn code) insns) (marks_are : marks ≡ starts_of (length code) insns) where
   pub start_is : (t : ℤ) → is_marked marks t ≡ is_start insns t

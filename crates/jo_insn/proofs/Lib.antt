@@ -8,3 +8,4 @@ pub mod SwitchTables
 pub mod InsnTables
 pub mod PcMarkLemmas
 pub mod OffsetSteps
+pub mod PlacedSteps

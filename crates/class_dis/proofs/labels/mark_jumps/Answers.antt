@@ -1,7 +1,7 @@
 use Rattle.std.proofs.Common.{List, ap, ◌∙◌}
 use Rattle.std.specs.Prelude.{ℤ}
 use Rattle.jo_insn.specs.Marks.{marked}
-use Rattle.class_dis.proofs.InsnSteps.{past, split}
+use Rattle.jo_insn.proofs.PlacedSteps.{past, split}
 use Rattle.class_dis.proofs.LabelMarks.{jump_marks}
 use Rattle.class_dis.proofs.labels.mark_jumps.Goals as goal
 

@@ -1,6 +1,7 @@
 use Rattle.std.proofs.Common.{get_or, sym, ap, ◌∙◌, arith}
 use Rattle.class_read.specs.Starts.{jumps_pass}
-use Rattle.class_read.proofs.CodeJumps.{past, split, goes_on, bad_here}
+use Rattle.jo_insn.proofs.PlacedSteps.{past, split}
+use Rattle.class_read.proofs.CodeJumps.{goes_on, bad_here}
 use Rattle.jo_insn.proofs.PcMarkLemmas.{starts_within}
 use Rattle.class_read.proofs.jumps.check_jumps.Goals as goal
 
