@@ -1,9 +1,9 @@
 -- Searches in graphs.
-use Rattle.std.proofs.Common.{◌≡◌, ◌≢◌, ℕ, zero, suc, ◌+◌, ◌<◌, ◌≤◌, Bool, true, false, not, List, [], ◌∷◌, ◌++◌, length, get_or, set, take, replicate, Contains, refl, sym, ◌∙◌, ap, subst, arith, inl, inr, ◌⊎◌, ◌↔◌, length-set}
-use Rattle.std.proofs.lemmas.Bool.{cases_eq, cases_lt, cases_Bool, both_ways}
+use Rattle.std.proofs.Common.{◌≡◌, ℕ, ◌+◌, ◌<◌, ◌≤◌, Bool, true, false, List, [], ◌∷◌, ◌++◌, length, get_or, set, replicate, Contains, sym, ◌∙◌, ap, subst, arith, inl, inr, ◌⊎◌, length-set}
+use Rattle.std.proofs.lemmas.Bool.{cases_eq, cases_lt, both_ways}
 use Rattle.std.proofs.lemmas.List.{length-replicate, get_or-replicate, get_or-set_same, get_or-set_other, get_or_past, set-get_or}
 use Rattle.std.proofs.lemmas.List.Elements.{Contains-append_left, Contains-push, Contains-push_cases}
-use Rattle.jo_ids.specs.Path.{Path, stays, goes}
+use Rattle.jo_ids.specs.Path.{Path, stays}
 use Rattle.jo_ids.specs.Rows.{has_number}
 use Rattle.jo_ids.proofs.PathLemmas.{path_more, kept_along}
 use Rattle.jo_graph.specs.Graphs.{HasEdge, AddsEdge, IsReach}

@@ -1,8 +1,8 @@
 -- A set of nodes beside the queue of these nodes.
-use Rattle.std.proofs.Common.{◌≡◌, ◌≢◌, ℕ, zero, suc, ◌+◌, ◌<◌, ◌≤◌, Bool, true, false, not, cond, List, [], ◌∷◌, ◌++◌, length, get_or, set, take, replicate, Contains, refl, sym, ◌∙◌, ap, subst, arith, inl, inr, ◌⊎◌, length-set}
+use Rattle.std.proofs.Common.{◌≡◌, ℕ, zero, suc, ◌+◌, ◌<◌, Bool, true, false, not, cond, List, [], ◌∷◌, ◌++◌, length, get_or, set, replicate, Contains, refl, sym, ◌∙◌, ap, subst, arith, inl, inr, ◌⊎◌, length-set}
 use Rattle.std.specs.Prelude.{count_by}
-use Rattle.std.proofs.lemmas.Bool.{cases_eq, cases_lt, cases_Bool, both_ways, not-true, not-false}
-use Rattle.std.proofs.lemmas.List.{length-replicate, get_or-replicate, get_or-set_same, get_or-set_other, get_or_past, take_more}
+use Rattle.std.proofs.lemmas.Bool.{cases_eq, cases_lt, both_ways}
+use Rattle.std.proofs.lemmas.List.{length-replicate, get_or-replicate, get_or-set_same, get_or-set_other, get_or_past}
 use Rattle.std.proofs.lemmas.List.Sums.{sum_by-set, sum_by-cons}
 use Rattle.std.proofs.lemmas.List.Elements.{Contains-append_left, Contains-push, Contains-push_cases}
 use Rattle.jo_ids.specs.Rows.{has_number}
@@ -12,9 +12,6 @@ use Rattle.jo_graph.specs.Queues.{IsQueueOf, Follows}
 
 pub has_number-set_same : (row : List Bool) (i : ℕ) → i < length row → has_number (set row i true) i ≡ true
 has_number-set_same row i h = get_or-set_same row i true false h
-
-pub has_number-below : (row : List Bool) (i : ℕ) → has_number row i ≡ true → i < length row
-has_number-below row i h = elim (cases_lt i (length row)) [ inl b ↦ b | inr past ↦ absurd (both_ways (has_number row i) (get_or_past row i false past) h) ]
 
 pub has_number-set : (row : List Bool) (i n : ℕ) → i < length row → has_number row n ≡ true → has_number (set row i true) n ≡ true
 has_number-set row i n b h = elim (cases_eq n i) [

@@ -1,7 +1,7 @@
 //! Directed graphs over numbers, and what can be reached in them.
 #![tactic(auto)]
 
-ghost use Rattle.std.specs.Prelude.{◌≡◌, ℕ, ◌<◌, ◌≤◌, [], length, replicate, slice_index, IfOk, OnErr, OnOk, Contains};
+ghost use Rattle.std.specs.Prelude.{◌≡◌, ℕ, ◌<◌, [], length, replicate, slice_index, IfOk, OnErr, OnOk, Contains};
 ghost use Rattle.jo_graph.specs.Graphs.{AddsEdge, IsReach};
 ghost use Rattle.jo_graph.specs.Queues.{IsQueueOf, Follows, LeadsInside};
 

@@ -1,7 +1,7 @@
 -- The union of two lists of words, word by word.
-use Rattle.std.proofs.Common.{◌≡◌, ◌≢◌, ℕ, zero, suc, ◌+◌, ◌*◌, ◌/◌, ◌%◌, ◌<◌, ◌≤◌, ◌^◌, ◌||◌, Bool, true, false, bit_or, List, length, get_or, set, MatchBool, refl, sym, ◌∙◌, ap, subst, arith, inl, inr, ◌⊎◌, length-set}
-use Rattle.std.proofs.lemmas.Bool.{cases_eq, cases_lt, both_ways, cases_Bool, MatchBool-at_true, MatchBool-at_false, or_left, or_right, or_cases, or_from, or_parts}
-use Rattle.std.proofs.lemmas.List.{ext_get_or, get_or-set_same, get_or-set_other, get_or_past}
+use Rattle.std.proofs.Common.{◌≡◌, ◌≢◌, ℕ, ◌+◌, ◌*◌, ◌/◌, ◌%◌, ◌<◌, ◌≤◌, ◌^◌, ◌||◌, Bool, true, false, bit_or, List, length, get_or, set, MatchBool, refl, sym, ◌∙◌, ap, subst, arith, inl, inr, length-set}
+use Rattle.std.proofs.lemmas.Bool.{cases_eq, cases_lt, both_ways, cases_Bool, MatchBool-at_true, MatchBool-at_false, or_right, or_from}
+use Rattle.std.proofs.lemmas.List.{get_or-set_same, get_or-set_other, get_or_past}
 use Rattle.jo_ids.specs.Words.{in_word}
 use Rattle.jo_ids.specs.Rows.{has_number, in_words, row_of, FitsLength, IsUnion, IsNew, IsNewIn}
 use Rattle.jo_ids.proofs.WordLemmas.{in_word-or, new_bit}

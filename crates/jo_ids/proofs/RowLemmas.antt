@@ -1,8 +1,6 @@
 -- Sets of numbers in words.
-use Rattle.std.proofs.Common.{◌≡◌, ◌≢◌, ℕ, zero, suc, ◌+◌, ◌*◌, ◌/◌, ◌%◌, ◌<◌, ◌≤◌, ◌^◌, ◌==◌, ◌||◌, Bool, true, false, bit_or, List, length, get_or, set, replicate, map, refl, sym, ◌∙◌, ap, subst, arith, inl, inr, ◌⊎◌, length-set}
-use Rattle.std.specs.Int.{bit_at}
-use Rattle.std.specs.List.{range_with_len}
-use Rattle.std.proofs.lemmas.Bool.{cases_eq, cases_lt, eq-eqb, ne_eqb, or_left, or_right}
+use Rattle.std.proofs.Common.{◌≡◌, ℕ, ◌/◌, ◌%◌, ◌<◌, ◌==◌, ◌||◌, Bool, true, false, List, length, get_or, set, replicate, refl, sym, ◌∙◌, ap, arith, inl, inr, length-set}
+use Rattle.std.proofs.lemmas.Bool.{cases_eq, cases_lt, eq-eqb, ne_eqb, or_right}
 use Rattle.std.proofs.lemmas.List.{length-replicate, ext_get_or, get_or-set_same, get_or-set_other, get_or-replicate, get_or_past}
 use Rattle.std.proofs.lemmas.List.FromFn.{length-map-range_with_len, get_or-map-range_with_len}
 use Rattle.jo_ids.specs.Words.{in_word}
@@ -34,13 +32,6 @@ in_words-zeros n i = ap (λ w. in_word w (i % 64)) (zero_at n (i / 64)) ∙ in_w
 pub row_of-zeros : (n len : ℕ) → row_of (replicate n 0) len ≡ replicate len false
 row_of-zeros n len = row_of-is (replicate n 0) len (replicate len false) (length-replicate len false)
     (λ i h. in_words-zeros n i ∙ sym (get_or-replicate len i false false h))
-
-pub zeros_fit : (n len : ℕ) → len ≤ 64 * n → 64 * n < len + 64 → FitsLength (replicate n 0) len
-zeros_fit n len h k = record {
-  enough = omega (arith, length-replicate {A = ℕ} n 0);
-  no_more = omega (arith, length-replicate {A = ℕ} n 0);
-  outside = λ i _. in_words-zeros n i;
-}
 
 -- ---- one number more
 

@@ -1,16 +1,16 @@
 -- The rows of the levels become the closure of the pairs.
-use Rattle.std.proofs.Common.{◌≡◌, ◌≢◌, ℕ, zero, suc, ◌+◌, ◌<◌, ◌≤◌, ◌==◌, ◌&&◌, ◌||◌, Bool, true, false, List, [], ◌∷◌, length, get_or, replicate, Contains, slice_get, Some, refl, sym, ◌∙◌, ap, subst, arith, inl, inr, ◌⊎◌, ◌↔◌}
+use Rattle.std.proofs.Common.{◌≡◌, ℕ, ◌+◌, ◌<◌, ◌≤◌, ◌&&◌, ◌||◌, true, false, List, length, get_or, replicate, Contains, slice_get, Some, refl, sym, ◌∙◌, ap, subst, arith, inl, inr, ◌⊎◌}
 use Rattle.std.proofs.lemmas.Bool.{cases_eq, cases_lt, both_ways, or_cases, or_left, or_right, and_from, and_parts}
-use Rattle.std.proofs.lemmas.List.{length-replicate, get_or-replicate, get_or_past}
+use Rattle.std.proofs.lemmas.List.{length-replicate, get_or-replicate}
 use Rattle.std.proofs.lemmas.Option.{slice_get-get_or}
 use Rattle.jo_ids.specs.Words.{in_word}
 use Rattle.jo_ids.proofs.WordLemmas.{in_word-zero}
 use Rattle.jo_ids.specs.Path.{Path, stays, goes}
 use Rattle.jo_ids.specs.Closure.{Closure}
-use Rattle.jo_ids.proofs.PathLemmas.{path_on, path_edge, path_in}
-use Rattle.jo_order.specs.LevelRows.{row_has, row_flows, AreMutual}
+use Rattle.jo_ids.proofs.PathLemmas.{path_on, path_in}
+use Rattle.jo_order.specs.LevelRows.{row_has, row_flows}
 use Rattle.jo_order.specs.FlowLaws.{row_flows-self}
-use Rattle.jo_order.specs.Orders.{IsUnknown, AreKnown}
+use Rattle.jo_order.specs.Orders.{AreKnown}
 use Rattle.jo_order.specs.Closing.{AreInside, HasPairs, IsClosureOf, IsClosed}
 use Rattle.jo_order.proofs.RowsLemmas.{row_has-past, row_has-below, row_flows-has, row_flows-cases}
 

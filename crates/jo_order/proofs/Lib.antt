@@ -1,3 +1,4 @@
 pub mod RowsLemmas
 pub mod ClosingLemmas
 pub mod OrderLemmas
+pub mod NameLemmas

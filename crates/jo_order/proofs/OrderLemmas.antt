@@ -1,14 +1,14 @@
 -- Faults of names and pairs, and the order that they give.
-use Rattle.std.proofs.Common.{◌≡◌, ◌≢◌, ℕ, zero, suc, ◌+◌, ◌<◌, ◌≤◌, ◌==◌, ◌||◌, Bool, true, false, List, [], ◌∷◌, ◌++◌, length, get_or, take, Contains, slice_get, Some, length-take, refl, sym, ◌∙◌, ap, subst, arith, inl, inr, ◌⊎◌, ◌↔◌}
+use Rattle.std.proofs.Common.{◌≡◌, ℕ, ◌+◌, ◌<◌, ◌≤◌, true, List, length, take, Contains, slice_get, Some, length-take, refl, sym, ◌∙◌, ap, subst, arith, inl, inr}
 use Rattle.std.proofs.lemmas.Bool.{cases_eq, cases_lt, cases_order}
 use Rattle.std.proofs.lemmas.List.{get_or-take}
-use Rattle.std.proofs.lemmas.Option.{slice_get-get_or, get_or_from_slice_get, same_Some}
+use Rattle.std.proofs.lemmas.Option.{slice_get-get_or, get_or_from_slice_get}
 use Rattle.jo_ids.specs.Closure.{Closure}
 use Rattle.jo_ids.proofs.PathLemmas.{path_on}
 use Rattle.jo_order.specs.declared.OrderFault.{OrderFault}
 use Rattle.jo_order.specs.declared.OrderFault.TheVariants.{TwiceNamed, TooMany, Unknown, Cycle, Memory}
 use Rattle.jo_order.specs.LevelRows.{row_has, row_flows, AreMutual, IsOrder}
-use Rattle.jo_order.specs.Orders.{IsLeast, IsRepeated, IsUnknown, IsCycle, IsFirstCycle, AreDistinct, AreKnown, GiveOrder, OrderFaultOf}
+use Rattle.jo_order.specs.Orders.{IsLeast, IsRepeated, IsCycle, IsFirstCycle, GiveOrder, OrderFaultOf}
 use Rattle.jo_order.specs.Closing.{IsClosed, IsFirstMutual}
 use Rattle.jo_order.proofs.RowsLemmas.{row_flows-has, row_flows-cases}
 
@@ -45,19 +45,6 @@ not_repeated names place name there lacks repeated =
   where
     within : repeated.earlier.0 < length (take place names)
     within = simp length-take (omega (arith, repeated.earlier.1, repeated.inside))
-
-pub is_unknown : (count : ℕ) (pairs : List (ℕ × ℕ)) (place a b : ℕ) → slice_get pairs place ≡ Some (a, b) → (count ≤ a) ⊎ (count ≤ b) → IsUnknown count pairs place
-is_unknown count pairs place a b there past = record { pair = (a, b); there = there; past = past }
-
-pub is_known : (count : ℕ) (pairs : List (ℕ × ℕ)) (place a b : ℕ) → slice_get pairs place ≡ Some (a, b) → a < count → b < count → IsUnknown count pairs place → ⊥
-is_known count pairs place a b there first second unknown =
-    elim unknown.past [
-      | inl h ↦ omega (arith, h, ap (λ (p : ℕ × ℕ). p.0) pair)
-      | inr h ↦ omega (arith, h, ap (λ (p : ℕ × ℕ). p.1) pair)
-    ]
-  where
-    pair : unknown.pair ≡ (a, b)
-    pair = same_Some unknown.pair (a, b) (sym unknown.there ∙ there)
 
 -- ---- cycles are mutual rows
 

@@ -1,7 +1,7 @@
 -- Rows of levels.
-use Rattle.std.proofs.Common.{◌≡◌, ◌≢◌, ℕ, zero, suc, ◌+◌, ◌<◌, ◌≤◌, ◌^◌, ◌==◌, ◌&&◌, ◌||◌, Bool, true, false, cond, bit_or, List, [], ◌∷◌, ◌++◌, length, get_or, set, take, replicate, Contains, refl, sym, ◌∙◌, ap, subst, arith, inl, inr, ◌⊎◌, ◌↔◌, length-set}
-use Rattle.std.proofs.lemmas.Bool.{cases_eq, cases_lt, cases_Bool, both_ways, or_cases, or_left, or_right, or_from, and_from, and_parts, eqb-true, eq-eqb, ne_eqb}
-use Rattle.std.proofs.lemmas.List.{length-replicate, get_or-replicate, get_or-set_same, get_or-set_other, get_or_past}
+use Rattle.std.proofs.Common.{◌≡◌, ℕ, ◌+◌, ◌<◌, ◌≤◌, ◌^◌, ◌==◌, ◌&&◌, ◌||◌, Bool, true, false, cond, bit_or, List, [], ◌∷◌, ◌++◌, length, get_or, set, Contains, refl, sym, ◌∙◌, ap, subst, arith, inl, inr, ◌⊎◌, length-set}
+use Rattle.std.proofs.lemmas.Bool.{cases_eq, cases_lt, cases_Bool, both_ways, or_cases, or_left, or_right, eqb-true, eq-eqb, ne_eqb}
+use Rattle.std.proofs.lemmas.List.{get_or-set_same, get_or-set_other, get_or_past}
 use Rattle.std.proofs.lemmas.List.Elements.{Contains-append_left, Contains-push, Contains-push_cases}
 use Rattle.std.proofs.lemmas.Nat.Bits.{bit_at_above}
 use Rattle.jo_ids.specs.Words.{in_word}
@@ -18,9 +18,6 @@ row_has-past rows a b h = ap (λ w. in_word w b) (get_or_past rows a 0 h) ∙ in
 
 pub row_has-below : (rows : List ℕ) (a b : ℕ) → row_has rows a b ≡ true → a < length rows
 row_has-below rows a b h = elim (cases_lt a (length rows)) [ inl below ↦ below | inr past ↦ absurd (both_ways (row_has rows a b) (row_has-past rows a b past) h) ]
-
-pub row_flows-same : (rows : List ℕ) (a b : ℕ) → a ≡ b → true ≡ row_flows rows a b
-row_flows-same rows a b e = sym (or_left (a == b) (row_has rows a b) (eq-eqb a b e))
 
 pub row_flows-other : (rows : List ℕ) (a b : ℕ) → (a ≡ b → ⊥) → row_has rows a b ≡ row_flows rows a b
 row_flows-other rows a b n = sym (ap (λ t. t || row_has rows a b) (ne_eqb a b n))
@@ -98,27 +95,6 @@ pub record JoinsBelow (index level through : ℕ) (first rows : List ℕ) : Type
   pub same_length : length rows ≡ length first
   pub done : (k : ℕ) → k < index → get_or rows k 0 ≡ joined level through (get_or first k 0)
   pub rest : (k : ℕ) → index ≤ k → get_or rows k 0 ≡ get_or first k 0
-
-pub joins_below_none : (level through : ℕ) (first : List ℕ) → JoinsBelow 0 level through first first
-joins_below_none level through first = record { same_length = refl; done = λ k h. absurd (omega (arith, h)); rest = λ k _. refl }
-
-pub joins_below_more : (index level through : ℕ) (first rows next : List ℕ) → JoinsBelow index level through first rows → index < length rows
-    → next ≡ set rows index (joined level through (get_or rows index 0)) → JoinsBelow (index + 1) level through first next
-joins_below_more index level through first rows next so_far within e = record {
-  same_length = ap length e ∙ length-set rows index (joined level through (get_or rows index 0)) ∙ so_far.same_length;
-  done = done;
-  rest = λ k h. ap (λ ws. get_or ws k 0) e ∙ get_or-set_other rows index k (joined level through (get_or rows index 0)) 0 (λ q. absurd (omega arith)) ∙ so_far.rest k (omega arith);
-}
-  where
-    done : (k : ℕ) → k < index + 1 → get_or next k 0 ≡ joined level through (get_or first k 0)
-    done k h = elim (cases_eq k index) [
-      | inl q ↦
-          ap (λ ws. get_or ws k 0) e ∙ ap (λ j. get_or (set rows index (joined level through (get_or rows index 0))) j 0) q
-          ∙ get_or-set_same rows index (joined level through (get_or rows index 0)) 0 within ∙ ap (joined level through) (so_far.rest index (omega arith))
-          ∙ ap (λ j. joined level through (get_or first j 0)) (sym q)
-      | inr n ↦
-          ap (λ ws. get_or ws k 0) e ∙ get_or-set_other rows index k (joined level through (get_or rows index 0)) 0 n ∙ so_far.done k (omega (arith, h, n))
-    ]
 
 in_word-joined : (level through word b : ℕ) → in_word (joined level through word) b ≡ (in_word word b || (in_word word level && in_word through b))
 in_word-joined level through word b = elim (cases_Bool (in_word word level)) [

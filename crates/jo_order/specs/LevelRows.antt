@@ -1,5 +1,5 @@
 -- A relation on levels as one machine word a level, and what makes it an order.
-use Rattle.std.specs.Prelude.{◌≡◌, ◌<◌, ℕ, Bool, true, ◌==◌, ◌&&◌, ◌||◌, List, slice_index}
+use Rattle.std.specs.Prelude.{◌≡◌, ◌<◌, ℕ, Bool, true, ◌==◌, ◌||◌, List, slice_index}
 use Rattle.jo_ids.specs.Words.{in_word}
 
 -- whether the row of the first level has the second

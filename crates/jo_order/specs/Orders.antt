@@ -1,5 +1,5 @@
 -- Levels that are put in order by pairs, and what is wrong with names and pairs that give no order (this project's own).
-use Rattle.std.specs.Prelude.{◌≡◌, ◌⊎◌, ℕ, ◌<◌, ◌≤◌, List, length, Some, Contains, slice_get}
+use Rattle.std.specs.Prelude.{◌≡◌, ◌⊎◌, ℕ, ◌<◌, ◌≤◌, List, length, Some, slice_get}
 use Rattle.jo_ids.specs.Closure.{Closure}
 use Rattle.jo_order.specs.declared.OrderFault.{OrderFault}
 use Rattle.jo_order.specs.declared.OrderFault.TheVariants.{TwiceNamed, TooMany, Unknown, Cycle, Memory}

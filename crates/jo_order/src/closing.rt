@@ -1,5 +1,5 @@
 //! The relation of levels, a machine word a level, closed over the pairs.
-ghost use Rattle.std.specs.Prelude.{◌≡◌, ◌↔◌, ◌⊎◌, ◌<◌, ◌≤◌, ◌^◌, ◌&&◌, ◌||◌, ℕ, true, length, Contains, IfOk, IfSome, IfNone};
+ghost use Rattle.std.specs.Prelude.{◌≡◌, ◌<◌, ◌≤◌, ◌^◌, ◌&&◌, ◌||◌, ℕ, true, length, IfOk, IfSome, IfNone};
 ghost use Rattle.jo_order.specs.LevelRows.{row_has, row_flows, AreMutual};
 ghost use Rattle.jo_order.specs.Orders.{IsLeast, IsUnknown, AreKnown};
 ghost use Rattle.jo_order.specs.Closing.{IsClosed, AreInside, HasPairs, IsClosureOf, IsFirstMutual};

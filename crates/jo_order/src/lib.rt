@@ -92,7 +92,8 @@ impl Levels {
         ensures flows { IfOk result (FlowsBy pairs.now) }
         ensures fault { IfErr result (λ fault. (fault ≡ OrderFault.Memory) ⊎ OrderFaultOf names.now pairs.now fault) }
     {
-        if let Some(place) = first_repeated(names) {
+        let repeated = first_repeated(alloc, names)?;
+        if let Some(place) = repeated {
             return Err(OrderFault::TwiceNamed(place));
         }
         if names.len() > 64 {

@@ -1,7 +1,6 @@
-use Rattle.std.proofs.Common.{◌≡◌, ℕ, ◌<◌, List, [], ◌++◌, ◌∷◌, length, get_or, set, inl, inr, sym, ◌∙◌, ap, subst, arith}
+use Rattle.std.proofs.Common.{◌<◌, [], ◌++◌, ◌∷◌, length, set, inl, inr, ◌∙◌, ap, subst, arith}
 use Rattle.std.proofs.lemmas.List.{get_or_read}
 use Rattle.jo_graph.specs.Graphs.{AddsEdge}
-use Rattle.jo_graph.specs.Queues.{LeadsInside}
 use Rattle.jo_graph.proofs.GraphLemmas.{adds_edge, set_leads_inside}
 use Rattle.jo_graph.proofs.Digraph.add.Goals as goal
 use Rattle.jo_graph.proofs.Digraph.add.Goals.{in-Ok, in-Err}

@@ -1,4 +1,4 @@
-use Rattle.std.proofs.Common.{◌≡◌, ℕ, ◌<◌, Bool, true, false, List, length, replicate, set, sym, ◌∙◌, ap, subst, arith}
+use Rattle.std.proofs.Common.{◌≡◌, true, false, length, replicate, set, sym, ◌∙◌, ap, subst, arith}
 use Rattle.jo_graph.specs.Queues.{LeadsInside, IsQueueOf}
 use Rattle.jo_graph.proofs.QueueLemmas.{queue_of_one}
 use Rattle.jo_graph.proofs.Digraph.reach.Goals as goal

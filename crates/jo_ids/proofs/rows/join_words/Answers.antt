@@ -1,6 +1,6 @@
-use Rattle.std.proofs.Common.{◌+◌, ◌*◌, ◌<◌, get_or, refl, sym, arith, rules, subst}
+use Rattle.std.proofs.Common.{get_or, refl, arith, rules}
 use Rattle.std.proofs.lemmas.Bool.{OnFalse_from}
-use Rattle.jo_ids.proofs.JoinLemmas.{JoinsTo, joins_none, joins_set, joins_keep, joined_words, same_words, changed_words, words_changed}
+use Rattle.jo_ids.proofs.JoinLemmas.{joins_none, joins_set, joins_keep, joined_words, same_words, changed_words, words_changed}
 use Rattle.jo_ids.proofs.rows.join_words.Goals as goal
 use Rattle.jo_ids.proofs.rows.join_words.Goals.{then-joined-word, else-joined-word}
 

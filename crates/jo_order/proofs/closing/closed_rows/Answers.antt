@@ -1,4 +1,4 @@
-use Rattle.std.proofs.Common.{◌≡◌, ℕ, ◌+◌, ◌<◌, ◌++◌, List, length, replicate, sym, ◌∙◌, ap, subst, arith, rules}
+use Rattle.std.proofs.Common.{◌≡◌, length, replicate, sym, ◌∙◌, ap, subst, rules}
 use Rattle.std.proofs.lemmas.List.{take_at}
 use Rattle.jo_order.specs.Closing.{AreInside, HasPairs, IsClosureOf, IsClosed}
 use Rattle.jo_order.proofs.ClosingLemmas.{known_inside, is_closed}

@@ -1,4 +1,4 @@
-use Rattle.std.proofs.Common.{get_or, refl, arith}
+use Rattle.std.proofs.Common.{get_or, refl}
 use Rattle.jo_order.proofs.RowsLemmas.{rows_joined}
 use Rattle.jo_order.proofs.closing.join_through.Goals as goal
 

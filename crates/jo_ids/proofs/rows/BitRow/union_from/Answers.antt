@@ -1,7 +1,7 @@
-use Rattle.std.proofs.Common.{◌≡◌, ℕ, ◌||◌, Bool, List, length, subst, sym, ap, ◌∙◌, arith, true}
+use Rattle.std.proofs.Common.{◌≡◌, ℕ, ◌||◌, length, subst, sym, ap, ◌∙◌}
 use Rattle.std.proofs.lemmas.Bool.{OnFalse_from, OnFalse_at}
 use Rattle.std.proofs.lemmas.List.{with_items_is}
-use Rattle.jo_ids.specs.Rows.{in_words, row_of, IsUnion, FitsLength, IsNew, IsNewIn}
+use Rattle.jo_ids.specs.Rows.{in_words, row_of, IsUnion, FitsLength, IsNewIn}
 use Rattle.jo_ids.proofs.JoinLemmas.{words_match, fits_after, union_after, new_after, new_before}
 use Rattle.jo_ids.proofs.rows.BitRow.union_from.Goals as goal
 

@@ -1,6 +1,6 @@
-use Rattle.std.proofs.Common.{◌≡◌, ◌<◌, length, replicate, false, sym, ap, subst, ◌∙◌, arith, rules}
-use Rattle.jo_ids.specs.Rows.{row_of, FitsLength}
-use Rattle.jo_ids.proofs.RowLemmas.{length-row_of, row_of-zeros, zeros_fit}
+use Rattle.std.proofs.Common.{◌≡◌, replicate, ap, ◌∙◌, rules}
+use Rattle.jo_ids.specs.Rows.{row_of}
+use Rattle.jo_ids.proofs.RowLemmas.{row_of-zeros}
 use Rattle.jo_ids.proofs.rows.BitRow.with_len.Goals as goal
 
 pub returns : goal.returns
