@@ -66,7 +66,8 @@ abbrev pub file_class : List ℕ → Result ClassFile Refusal
 file_class bytes = if is_large bytes then Err (Limit M2) else class_numbered 0 (class_of bytes)
 
 -- a class before others; what refuses it comes before what refuses these
-abbrev pub before : Result ClassFile Refusal → Result (List ClassFile) Refusal → Result (List ClassFile) Refusal
+abbrev pub before : Result ClassFile Refusal → Result (List ClassFile) Refusal
+    → Result (List ClassFile) Refusal
 before (Err refusal) others = Err refusal
 before (Ok class) (Err refusal) = Err refusal
 before (Ok class) (Ok others) = Ok (class ∷ others)
@@ -74,7 +75,8 @@ before (Ok class) (Ok others) = Ok (class ∷ others)
 -- the classes of these files, whose first has this number, or the first file's fault that has one
 abbrev pub classes_from : ℕ → List (List ℕ) → Result (List ClassFile) Refusal
 classes_from number [] = Ok []
-classes_from number (file ∷ more) = before (class_numbered number (class_of file)) (classes_from (suc number) more)
+classes_from number (file ∷ more) =
+    before (class_numbered number (class_of file)) (classes_from (suc number) more)
 
 -- the classes of a list's files; or why there are none: one is too large, or else the first that has a fault
 abbrev pub classes_of : List (List ℕ) → Result (List ClassFile) Refusal

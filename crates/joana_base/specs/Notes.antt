@@ -51,7 +51,8 @@ detail _ = []
 
 -- the fault of a class file: its code, the file's number in the order of the list, the place
 abbrev pub class_words : ℕ → ClassFault → List ℕ
-class_words file fault = code_word fault.code ++ 32 ∷ decimal file ++ 32 ∷ decimal fault.place ++ detail fault.code
+class_words file fault =
+    code_word fault.code ++ 32 ∷ decimal file ++ 32 ∷ decimal fault.place ++ detail fault.code
 
 abbrev pub fault_words : InputFault → List ℕ
 fault_words NotBuilt = codes "NotBuilt"

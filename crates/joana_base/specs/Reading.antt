@@ -20,7 +20,8 @@ abbrev pub all_bytes : List (Vec ℕ Global) → List (List ℕ)
 all_bytes files = map (λ (file : Vec ℕ Global). file.items) files
 
 abbrev pub in_bytes : memory.ProgramFiles → ProgramFiles
-in_bytes files = record { policy = files.policy.items; list = files.list.items; classes = all_bytes files.classes.items }
+in_bytes files =
+    record { policy = files.policy.items; list = files.list.items; classes = all_bytes files.classes.items }
 
 -- ---- the files' count
 
@@ -52,7 +53,8 @@ abbrev pub AfterReads : {T : Type 0} → (ℕ → List ℕ → Type 0) → Resul
 AfterReads IsName (Ok value) files = files.faults_after ≡ files.faults_before
 AfterReads IsName (Err (Faulty refusal)) files = files.faults_after ≡ files.faults_before
 AfterReads IsName (Err (Unread u)) files =
-    Rose files.faults_before files.faults_after × IsName u.number files.last_failed × (string_bytes u.name ≡ files.last_failed)
+    Rose files.faults_before files.faults_after × IsName u.number files.last_failed
+    × (string_bytes u.name ≡ files.last_failed)
 AfterReads IsName (Err Memory) files = files.faults_before ≤ files.faults_after
 
 -- one read, with this number and name
@@ -69,7 +71,9 @@ AfterPathReads paths result files = AfterReads (IsReadOf paths) result files
 -- the reads of the paths of a list, which is text and not too large
 abbrev pub AfterListReads : {T : Type 0} → List ℕ → Result T Stop → FilesChange → Type 0
 AfterListReads list result files =
-    AfterReads (λ number name. (is_large list ≡ false) × IsUtf8 list × IsReadOf (paths_of list) number name) result files
+    let IsName : ℕ → List ℕ → Type 0 = λ number name.
+    (is_large list ≡ false) × IsUtf8 list × IsReadOf (paths_of list) number name in
+    AfterReads IsName result files
 
 -- The read of the path with this number in the class list: neither the policy nor the list is too large, and the list is
 -- UTF-8.
@@ -120,7 +124,8 @@ pub record AreReadable (files : ProgramFiles) : Type 0 where
 
 -- the files of a program were read; or they are refused
 abbrev pub ReadsProgram : Held → ProgramNames → Result memory.ProgramFiles Stop → Type 0
-ReadsProgram held names (Ok files) = AreReadable (in_bytes files) × AreProgramFiles held names (in_bytes files)
+ReadsProgram held names (Ok files) =
+    AreReadable (in_bytes files) × AreProgramFiles held names (in_bytes files)
 ReadsProgram held names (Err (Faulty refusal)) =
     (files : ProgramFiles) × AreProgramFiles held names files × (program_classes files ≡ Err refusal)
 ReadsProgram held names (Err stop) = ⊤

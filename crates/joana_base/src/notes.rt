@@ -102,7 +102,8 @@ fn limit_word(kind: LimitKind) -> &'static [u8]
 }
 
 fn input_line(alloc: Global, fault: InputFault) -> Result<Vec<u8>, Memory>
-    ensures { IfOk result (λ line. line.items ≡ codes "joana: input " ++ Notes.fault_words fault ++ codes "\n") }
+    ensures { IfOk result (λ line.
+        line.items ≡ codes "joana: input " ++ Notes.fault_words fault ++ codes "\n") }
 {
     let mut line = Vec::new(alloc);
     line.extend_from_slice(b"joana: input ")?;
@@ -112,7 +113,8 @@ fn input_line(alloc: Global, fault: InputFault) -> Result<Vec<u8>, Memory>
 }
 
 fn limit_line(alloc: Global, kind: LimitKind) -> Result<Vec<u8>, Memory>
-    ensures { IfOk result (λ line. line.items ≡ codes "joana: limit " ++ Notes.limit_word kind ++ codes "\n") }
+    ensures { IfOk result (λ line.
+        line.items ≡ codes "joana: limit " ++ Notes.limit_word kind ++ codes "\n") }
 {
     let mut line = Vec::new(alloc);
     line.extend_from_slice(b"joana: limit ")?;

@@ -56,7 +56,8 @@ pub fn read_file<F: Files>(
     number: u32,
     name: &str,
 ) -> Result<Vec<u8>, Stop>
-    ensures after { AfterRead number name.now result (files_change F.held F.faults F.failed files.old files.new) }
+    ensures after { AfterRead number name.now result
+        (files_change F.held F.faults F.failed files.old files.new) }
     ensures read { ReadsFile (F.held files.old) name.now result }
     ensures held { (other : List ℕ) → F.held files.new other ≡ F.held files.old other }
 {
@@ -74,7 +75,8 @@ fn read_path<F: Files>(
     path: &[u8],
 ) -> Result<Vec<u8>, Stop>
     requires { IsUtf8 path.now }
-    ensures after { AfterRead number path.now result (files_change F.held F.faults F.failed files.old files.new) }
+    ensures after { AfterRead number path.now result
+        (files_change F.held F.faults F.failed files.old files.new) }
     ensures read { ReadsFile (F.held files.old) path.now result }
     ensures held { (other : List ℕ) → F.held files.new other ≡ F.held files.old other }
 {
@@ -86,7 +88,8 @@ fn read_path<F: Files>(
 fn read_paths<F: Files>(alloc: Global, files: &mut F, paths: &[Name]) -> Result<Vec<Vec<u8>>, Stop>
     requires few { length paths.now + 2 < 2 ^ 32 }
     requires texts { AllByRecursion IsUtf8 paths.now }
-    ensures after { AfterPathReads paths.now result (files_change F.held F.faults F.failed files.old files.new) }
+    ensures after { AfterPathReads paths.now result
+        (files_change F.held F.faults F.failed files.old files.new) }
     ensures read { ReadsPaths (F.held files.old) paths.now result }
 {
     let mut classes = Vec::new(alloc);
@@ -105,7 +108,8 @@ fn read_paths<F: Files>(alloc: Global, files: &mut F, paths: &[Name]) -> Result<
 /// Reads the class files of a list.
 fn read_list<F: Files>(alloc: Global, files: &mut F, list: &[u8]) -> Result<Vec<Vec<u8>>, Stop>
     requires { is_too_large list.now ≡ false }
-    ensures after { AfterListReads list.now result (files_change F.held F.faults F.failed files.old files.new) }
+    ensures after { AfterListReads list.now result
+        (files_change F.held F.faults F.failed files.old files.new) }
     ensures read { ReadsList (F.held files.old) list.now result }
 {
     match split_lines(alloc, list) {
@@ -121,7 +125,8 @@ pub fn read_program<F: Files>(
     files: &mut F,
     names: ProgramNames<'_>,
 ) -> Result<ProgramFiles, Stop>
-    ensures after { AfterProgramReads (names_of names.entry) result (files_change F.held F.faults F.failed files.old files.new) }
+    ensures after { AfterProgramReads (names_of names.entry) result
+        (files_change F.held F.faults F.failed files.old files.new) }
     ensures read { ReadsProgram (F.held files.old) (names_of names.entry) result }
 {
     let policy = match read_file(alloc, files, 0, names.policy) {

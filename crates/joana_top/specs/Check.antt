@@ -64,10 +64,12 @@ has_no_rows (Some code) = length code.rows == 0
 -- the class has no interfaces, no fields and no exception rows
 abbrev pub is_bare : ClassFile → Bool
 is_bare c =
-    (length c.interfaces == 0 && length c.fields == 0) && list_all (λ (m : MethodInfo). has_no_rows m.code) c.methods
+    (length c.interfaces == 0 && length c.fields == 0)
+    && list_all (λ (m : MethodInfo). has_no_rows m.code) c.methods
 
 -- The class and the policy make this program with these labels.
-pub record IsFirstForm (class : ClassFile) (policy : List ℕ) (program : Program) (labels : Labels) : Type 0 where
+pub record IsFirstForm (class : ClassFile) (policy : List ℕ) (program : Program) (labels : Labels)
+    : Type 0 where
   pub bare : is_bare class ≡ true
   pub own_name : is_of_prelude class ≡ false
   pub superclass : is_under_object class ≡ true
@@ -168,7 +170,8 @@ HasOneCode methods entry =
 -- the entry's code is the only one, plain and typed
 pub record IsFormOf (program : Program) (labels : Labels) : Type 0 where
   pub one_code : HasOneCode program.methods labels.entry
-  pub plain : (code : Code) × (code_at program labels.entry ≡ Some code) × IsPlainFrom program labels labels.entry code 0
+  pub plain : (code : Code) × (code_at program labels.entry ≡ Some code)
+      × IsPlainFrom program labels labels.entry code 0
   pub typed : IsTyped program labels.entry
 
 -- the decision on a program of the first form
@@ -179,7 +182,8 @@ IsVerdict program labels (Refused text) = IsReportOf program labels text.items
 
 -- the decision on a class and a policy
 abbrev pub IsDecision : ClassFile → List ℕ → Decision → Type 0
-IsDecision class policy NotBuilt = (program : Program) (labels : Labels) → ¬ IsFirstForm class policy program labels
+IsDecision class policy NotBuilt =
+    (program : Program) (labels : Labels) → ¬ IsFirstForm class policy program labels
 IsDecision class policy Accepted =
     (program : Program) × (labels : Labels) × IsFirstForm class policy program labels × IsClean program labels
 IsDecision class policy (Refused text) =

@@ -42,7 +42,8 @@ AfterDisRead file result files = AfterReads (IsDisRead file) result files
 
 -- what it comes to on a file that was read, and on the one with this name
 abbrev pub IsFileOutcome : List ℕ → Result Answer Stop → Type 0
-IsFileOutcome bytes result = IsReadOutcome (IsListingOf bytes) (λ refusal. file_class bytes ≡ Err refusal) result
+IsFileOutcome bytes result =
+    IsReadOutcome (IsListingOf bytes) (λ refusal. file_class bytes ≡ Err refusal) result
 
 abbrev pub IsDisOutcome : Held → List ℕ → Result Answer Stop → Type 0
 IsDisOutcome held file result = IsOutcome (DisShows held file) (DisRefuses held file) result

@@ -129,7 +129,8 @@ fn is_bare(file: &ClassFile) -> bool
 fn program_of(alloc: Global, class: &ClassFile) -> Result<Option<Program>, Memory>
     requires { IsReadClass class.now }
     ensures program { IfOk result (λ found. IfSome found (MakesProgram class.now)) }
-    ensures none { IfOk result (λ found. IfNone found ((program : Program) → ¬ MakesProgram class.now program)) }
+    ensures none { IfOk result (λ found.
+        IfNone found ((program : Program) → ¬ MakesProgram class.now program)) }
 {
     if !is_bare(class) {
         return Ok(None);
