@@ -64,16 +64,16 @@ module _ (pool : List PoolEntry) (code : List ℕ) where
   insns_found (suc k) pc at wrong enough is = elim (cases_Bool (nat_le (length code) pc)) [
     | inl past ↦ let none : ◌≡◌ {A = Result (List Placed) (ClassCode × ℕ)} (Ok []) (Err (wrong, at)) = rw past at is in absurd (cc)
     | inr inside ↦ let there : pc < length code = leb-false (length code) pc inside in by_decoded (decoded code pc)
-      (λ e failed. fails_here pc at (code_for e) wrong there (no_insn e failed) (same_wrong (rw (inside, failed) at is)))
-      (λ insn next read. by_question (insn_fault pool insn)
-      (λ sound. by_insns (insns_from k pool code next)
-      (λ other place failed.
-      let same = same_wrong (rw (inside, read, sound, failed) at is) in
-      let moves = decoded-moves code pc next insn read in
-      let later = insns_found k next at wrong (omega arith) (failed ∙ ap (λ (w : ClassCode × ℕ). Err w) (pair_same other wrong place at same)) in
-      record { leads = onward pc next at insn read sound later.leads; inside = later.inside; fails = later.fails })
-      (λ insns all. let none : ◌≡◌ {A = Result (List Placed) (ClassCode × ℕ)} (Ok (record { pc = pc; insn = insn; next = next } ∷ insns)) (Err (wrong, at)) = rw (inside, read, sound, all) at is in absurd (cc)))
-      (λ found unsound. fails_here pc at found wrong there (names_wrong insn next found read unsound) (same_wrong (rw (inside, read, unsound) at is))))
+        (λ e failed. fails_here pc at (code_for e) wrong there (no_insn e failed) (same_wrong (rw (inside, failed) at is)))
+        (λ insn next read. by_question (insn_fault pool insn)
+        (λ sound. by_insns (insns_from k pool code next)
+        (λ other place failed.
+        let same = same_wrong (rw (inside, read, sound, failed) at is) in
+        let moves = decoded-moves code pc next insn read in
+        let later = insns_found k next at wrong (omega arith) (failed ∙ ap (λ (w : ClassCode × ℕ). Err w) (pair_same other wrong place at same)) in
+        record { leads = onward pc next at insn read sound later.leads; inside = later.inside; fails = later.fails })
+        (λ insns all. let none : ◌≡◌ {A = Result (List Placed) (ClassCode × ℕ)} (Ok (record { pc = pc; insn = insn; next = next } ∷ insns)) (Err (wrong, at)) = rw (inside, read, sound, all) at is in absurd (cc)))
+        (λ found unsound. fails_here pc at found wrong there (names_wrong insn next found read unsound) (same_wrong (rw (inside, read, unsound) at is))))
   ]
     where
       pair_same : (other wrong : ClassCode) (place at : ℕ) → (other ≡ wrong) × (place ≡ at) → ◌≡◌ {A = ClassCode × ℕ} (other, place) (wrong, at)
@@ -107,11 +107,11 @@ module _ (pool : List PoolEntry) (code : List ℕ) where
   jump_found insns [] pc is = absurd (cc)
   jump_found insns (placed ∷ more) pc is = elim (cases_Bool (jumps_well code insns placed)) [
     | inl well ↦
-      let later = jump_found insns more pc (rw well at is) in
-      record { before = placed ∷ later.before; more = later.more; placed = later.placed; among = ap (λ (ps : List Placed). placed ∷ ps) later.among; well = ((jumps_decide insns placed).0 well, later.well); ill = later.ill; is = later.is }
+        let later = jump_found insns more pc (rw well at is) in
+        record { before = placed ∷ later.before; more = later.more; placed = later.placed; among = ap (λ (ps : List Placed). placed ∷ ps) later.among; well = ((jumps_decide insns placed).0 well, later.well); ill = later.ill; is = later.is }
     | inr ill ↦
-      let this : Some placed.pc ≡ Some pc = rw ill at is in
-      record { before = []; more = more; placed = placed; among = refl; well = tt; ill = not_from_Decides _ (jumps_decide insns placed) ill; is = cc }
+        let this : Some placed.pc ≡ Some pc = rw ill at is in
+        record { before = []; more = more; placed = placed; among = refl; well = tt; ill = not_from_Decides _ (jumps_decide insns placed) ill; is = cc }
   ]
 
   jump_stops : (insns before more : List Placed) (placed : Placed) → AllByRecursion (JumpsWell code insns) before → (JumpsWell code insns placed → ⊥) → first_bad_jump code insns (before ++ placed ∷ more) ≡ Some placed.pc
@@ -278,14 +278,14 @@ module _ (size : ℕ) (pool : List PoolEntry) (place count : ℕ) where
       elim (cases_Bool (is_short n.0)) [
         | inr long ↦ rw long refl
         | inl short ↦ rw short (
-          by_answer (bytes_of size n.0 n.1) (λ f failed. rw failed refl) (λ code is4. rw is4 (
-          by_answer (number size 2 code.1) (λ f failed. rw failed refl) (λ k is5. rw is5 (
-          by_answer (many (read_row size) k.0 k.1) (λ f failed. rw failed refl) (λ rows is6. rw is6 (
-          by_answer (skip_attributes size pool rows.1) (λ f failed. rw failed refl) (λ left is7. rw is7 (
-          elim (cases_Bool (length rest - length left == count)) [
-            | inr wrong ↦ rw wrong refl
-            | inl right ↦ rw right refl
-          ])))))))))
+            by_answer (bytes_of size n.0 n.1) (λ f failed. rw failed refl) (λ code is4. rw is4 (
+            by_answer (number size 2 code.1) (λ f failed. rw failed refl) (λ k is5. rw is5 (
+            by_answer (many (read_row size) k.0 k.1) (λ f failed. rw failed refl) (λ rows is6. rw is6 (
+            by_answer (skip_attributes size pool rows.1) (λ f failed. rw failed refl) (λ left is7. rw is7 (
+            elim (cases_Bool (length rest - length left == count)) [
+              | inr wrong ↦ rw wrong refl
+              | inl right ↦ rw right refl
+            ])))))))))
       ]))))))
 
   code_stops : (rest : List ℕ) → AreBytes rest → StopsBy (read_code size pool place count rest) (CodeStops size pool place count rest)

@@ -236,7 +236,7 @@ method_reads size pool = record {
       (by_question (first_failing (method_questions wide head.0 found)) (λ passed. rw passed refl) (λ wrong failed. rw failed refl))
       (then_ok _ (λ _. method) (
       ask (not (wide && runs)) (Unsupported WideType) (place_of size rest) ((synchronized, Unsupported Synchronized) ∷ (has_one head.0 found, CodeBounds) ∷ [])
-          (not_both wide runs (Decides-or (has_flag native_flag head.0) (nat_lt 0 (length found)) (λ e. e, λ e. e) (Decides-ltb 0 (length found)))) (λ _.
+      (not_both wide runs (Decides-or (has_flag native_flag head.0) (nat_lt 0 (length found)) (λ e. e, λ e. e) (Decides-ltb 0 (length found)))) (λ _.
       ask synchronized (Unsupported Synchronized) (place_of size rest) ((has_one head.0 found, CodeBounds) ∷ []) (unset (has_flag synchronized_flag head.0)) (λ _.
       ask (has_one head.0 found) CodeBounds (place_of size rest) [] (body_decided head.0 found) (λ _. never))))))));
 }
