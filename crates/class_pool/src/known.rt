@@ -125,7 +125,7 @@ fn names_wide(desc: &[u8]) -> bool
 }
 
 /// How many words the arguments of a call with this descriptor take, its receiver included.
-fn argument_words(desc: &[u8]) -> usize
+pub fn argument_words(desc: &[u8]) -> usize
     ensures { result ≡ Code.argument_words desc.now }
 {
     let mut count = 0;

@@ -17,6 +17,6 @@ mod writer;
 pub use classes::{ClassFile, CodeInfo, FieldInfo, MemberKind, MethodInfo, RowInfo};
 pub use entries::{Pool, PoolEntry, class_name_at, desc_at, entry_at, utf8_at};
 pub use faults::{ClassCode, ClassFault, Cut, Stop};
-pub use known::{KnownPool, TextFacts};
+pub use known::{KnownPool, TextFacts, argument_words};
 pub use reader::{read_pool, read_pool_from};
-pub use writer::write_pool;
+pub use writer::{add_entry, write_pool};

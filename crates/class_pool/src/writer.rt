@@ -35,7 +35,8 @@ fn add_pool(pool: &[PoolEntry], bytes: &mut Vec<u8>) -> Result<(), Memory>
     Ok(())
 }
 
-fn add_entry(entry: &PoolEntry, bytes: &mut Vec<u8>) -> Result<(), Memory>
+/// Adds the bytes of an entry: its tag, and what stands behind it. A refusal leaves the bytes as they were.
+pub fn add_entry(entry: &PoolEntry, bytes: &mut Vec<u8>) -> Result<(), Memory>
     requires { FitsEntry entry.now }
     ensures ok { OnOk result (bytes.new.items ≡ bytes.old.items ++ spelled_entry entry.now) }
     ensures err { OnErr result (bytes.new.items ≡ bytes.old.items) }

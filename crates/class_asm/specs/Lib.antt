@@ -1,0 +1,14 @@
+pub mod Outcomes
+pub mod Lines
+pub mod ItemScan
+pub mod Words
+pub mod Statements
+pub mod Needs
+pub mod Layout
+pub mod Making
+pub mod Encoding
+pub mod Assembly
+pub mod Labelled
+pub mod Halts
+pub mod Assembling
+pub mod Answers

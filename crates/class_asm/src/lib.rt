@@ -1,0 +1,21 @@
+//! Assembles class files from texts (the grammar is this project's own; the parts are those of the JVM Specification SE 8,
+//! 4.1 to 4.7).
+#![tactic(auto)]
+
+pub mod assembly;
+pub mod causes;
+pub mod encoding;
+pub mod labels;
+pub mod layout;
+pub mod lines;
+pub mod pool_maker;
+mod reading;
+pub mod statements;
+pub mod stops;
+#[cfg(test)]
+mod tests;
+pub mod texts;
+pub mod words;
+
+pub use assembly::{AsmFault, assemble};
+pub use reading::read_line;
