@@ -4,7 +4,7 @@ ghost use Rattle.std.specs.List.{prefix_len};
 ghost use Rattle.class_asm.specs.Lines.{lines_of, items_of, is_parting as parts_items, quoted_behind as quotes_after, ends_in_space as ends_so};
 ghost use Rattle.class_asm.specs.ItemScan.{item_length as length_with, first_of};
 
-use class_pool::items::behind;
+use jo_insn::behind;
 
 /// The first line of a text, without its end, and what follows.
 #[tactic(auto, using(crate::proofs::LineSteps::next_line, crate::proofs::LineSteps::no_line))]

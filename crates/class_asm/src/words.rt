@@ -6,7 +6,7 @@ ghost use Rattle.class_asm.specs.Words.{name_in, quoted_in, is_of_kind as has_ki
 
 use crate::statements::{Member, Number};
 use crate::stops::Stop;
-use class_pool::items::behind;
+use jo_insn::behind;
 use jo_text::{
     DescFault, Name, is_class_name, is_class_or_array, is_field_desc, is_member_name,
     is_method_desc, is_mutf8, unescape, unquote,
