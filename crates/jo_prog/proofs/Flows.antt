@@ -1,21 +1,17 @@
 -- `flows_by` is the reflexive and transitive closure of its pairs.
 use Rattle.std.proofs.Common.{◌≡◌, ℕ, zero, suc, ◌<◌, true, ◌&&◌, List, [], ◌∷◌, length, get_or, refl, sym, subst, arith, inl, inr, ap}
 use Rattle.std.proofs.lemmas.Bool.{eqb-true, eq-eqb, or_cases, or_left, or_right, and_parts, and_from}
-use Rattle.jo_prog.specs.Labels.{flows_by, FlowsAlong, stays, goes}
+use Rattle.jo_ids.specs.Path.{stays, goes}
+use Rattle.jo_ids.specs.Closure.{Closure}
+use Rattle.jo_ids.proofs.PathLemmas.{path_on, path_in}
+use Rattle.jo_prog.specs.Labels.{flows_by}
 
 -- a path by fewer pairs is a path by more
-along_more : (pair : ℕ × ℕ) (pairs : List (ℕ × ℕ)) {a b : ℕ} → FlowsAlong pairs a b → FlowsAlong (pair ∷ pairs) a b
-along_more pair pairs (stays a) = stays a
-along_more pair pairs (goes a b c among on) =
-    goes a b c (suc among.0, omega (arith, among.1), among.2) (along_more pair pairs on)
+along_more : (pair : ℕ × ℕ) (pairs : List (ℕ × ℕ)) {a b : ℕ} → Closure pairs a b → Closure (pair ∷ pairs) a b
+along_more pair pairs = path_in (λ a. a) (λ a b among. (suc among.0, omega (arith, among.1), among.2))
 
--- a path goes on by another
-along_on : (pairs : List (ℕ × ℕ)) {a b c : ℕ} → FlowsAlong pairs a b → FlowsAlong pairs b c → FlowsAlong pairs a c
-along_on pairs (stays a) q = q
-along_on pairs (goes a b c among on) q = goes a b _ among (along_on pairs on q)
-
-pub along_from_flows : (pairs : List (ℕ × ℕ)) (a b : ℕ) → flows_by pairs a b ≡ true → FlowsAlong pairs a b
-along_from_flows [] a b h = subst (λ x. FlowsAlong [] a x) (eqb-true a b h) (stays a)
+pub along_from_flows : (pairs : List (ℕ × ℕ)) (a b : ℕ) → flows_by pairs a b ≡ true → Closure pairs a b
+along_from_flows [] a b h = subst (λ x. Closure [] a x) (eqb-true a b h) (stays a)
 along_from_flows (pair ∷ pairs) a b h =
     elim (or_cases (flows_by pairs a b) (flows_by pairs a pair.0 && flows_by pairs pair.1 b) h) [
       | inl e ↦ along_more pair pairs (along_from_flows pairs a b e)
@@ -23,7 +19,7 @@ along_from_flows (pair ∷ pairs) a b h =
           let both = and_parts (flows_by pairs a pair.0) (flows_by pairs pair.1 b) e in
           let first = along_more pair pairs (along_from_flows pairs a pair.0 both.0) in
           let last = along_more pair pairs (along_from_flows pairs pair.1 b both.1) in
-          along_on (pair ∷ pairs) first (goes pair.0 pair.1 b (0, omega arith, refl) last)
+          path_on first (goes pair.0 pair.1 b (0, omega arith, refl) last)
     ]
 
 flows_by-self : (pairs : List (ℕ × ℕ)) (a : ℕ) → flows_by pairs a a ≡ true
@@ -58,7 +54,7 @@ flows_by-on (pair ∷ pairs) a b c h k =
           ]
     ]
 
-pub flows_from_along : (pairs : List (ℕ × ℕ)) {a b : ℕ} → FlowsAlong pairs a b → flows_by pairs a b ≡ true
+pub flows_from_along : (pairs : List (ℕ × ℕ)) {a b : ℕ} → Closure pairs a b → flows_by pairs a b ≡ true
 flows_from_along pairs (stays a) = flows_by-self pairs a
 flows_from_along pairs (goes a b c among on) =
     flows_by-on pairs a b c (flows_by-pair pairs a b among.0 among.1 among.2) (flows_from_along pairs on)

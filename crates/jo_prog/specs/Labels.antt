@@ -1,5 +1,5 @@
 -- What the labels of a policy say of levels and methods. Labels on a dependence graph are after Hammer and Snelting (2009).
-use Rattle.std.specs.Prelude.{ℕ, Bool, true, false, ◌&&◌, ◌||◌, ◌==◌, if◌then◌else◌, List, [], ◌∷◌, Option, Some, None, Contains}
+use Rattle.std.specs.Prelude.{ℕ, Bool, true, false, ◌&&◌, ◌||◌, ◌==◌, if◌then◌else◌, List, [], ◌∷◌, Option, Some, None}
 use Rattle.jo_prog.specs.declared.labels.Label.{Label}
 use Rattle.jo_prog.specs.declared.labels.Label.TheVariants.{Source, Sink, Release}
 use Rattle.jo_prog.specs.declared.labels.Labels.{Labels}
@@ -9,12 +9,6 @@ use Rattle.jo_prog.specs.declared.labels.Labels.{Labels}
 abbrev pub flows_by : List (ℕ × ℕ) → ℕ → ℕ → Bool
 flows_by [] a b = a == b
 flows_by (pair ∷ pairs) a b = flows_by pairs a b || (flows_by pairs a pair.0 && flows_by pairs pair.1 b)
-
--- The reflexive and transitive closure of the pairs, as paths: level a flows to level b by none of the pairs, or by one
--- of them and on from its second.
-pub data FlowsAlong (pairs : List (ℕ × ℕ)) : ℕ → ℕ → Type 0 where
-  stays : (a : ℕ) → FlowsAlong pairs a a
-  goes : (a b c : ℕ) → Contains pairs (a, b) → FlowsAlong pairs b c → FlowsAlong pairs a c
 
 -- level a flows to level b
 abbrev pub flows : Labels → ℕ → ℕ → Bool

@@ -1,7 +1,8 @@
 //! Laws of the definitions. Each function is empty: what it ensures is the law.
 ghost use Rattle.std.specs.Prelude.{◌≡◌, ℕ, pos, List, [], ◌∷◌, replicate, true, Some, slice_get};
 ghost use Rattle.jo_prog.specs.Constants.{texts_of, string_constants, string_address};
-ghost use Rattle.jo_prog.specs.Labels.{FlowsAlong, flows_by};
+ghost use Rattle.jo_ids.specs.Closure.{Closure};
+ghost use Rattle.jo_prog.specs.Labels.{flows_by};
 ghost use Rattle.jo_prog.specs.Machine.{string_object, start};
 ghost use Rattle.jo_prog.specs.Runs.{run, seen};
 ghost use Rattle.jo_prog.specs.Worked.{worked_program, worked_labels, worked_inputs};
@@ -11,8 +12,8 @@ ghost use Rattle.jo_prog.specs.declared.runs.Event.TheVariants.{Out};
 
 /// The flow of labels is the reflexive and transitive closure of the policy's pairs.
 pub fn flows_by_is_closure()
-    ensures along { (pairs : List (ℕ × ℕ)) (a b : ℕ) → flows_by pairs a b ≡ true → FlowsAlong pairs a b }
-    ensures every { (pairs : List (ℕ × ℕ)) (a b : ℕ) → FlowsAlong pairs a b → flows_by pairs a b ≡ true }
+    ensures along { (pairs : List (ℕ × ℕ)) (a b : ℕ) → flows_by pairs a b ≡ true → Closure pairs a b }
+    ensures every { (pairs : List (ℕ × ℕ)) (a b : ℕ) → Closure pairs a b → flows_by pairs a b ≡ true }
 {}
 
 /// String constants: each text that the program names has an address, where an object of java/lang/String stands at the start,
