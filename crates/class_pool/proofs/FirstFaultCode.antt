@@ -30,7 +30,7 @@ use Rattle.class_pool.proofs.GrammarParts.{dims_decided}
 use Rattle.class_pool.proofs.GrammarInsns.{insns_of_grammar}
 use Rattle.class_pool.proofs.GrammarJumps.{is_start_decides, all_decides, no_bad_jump, no_bad_row}
 use Rattle.class_pool.proofs.GrammarCode.{row_read, row_again, code_read, code_again}
-use Rattle.class_pool.proofs.FirstFaultSteps.{StopsBy, Reads, never, reads_as, then_ok, part, check, asked, ask, by_question, number_reads, bytes_reads, two_reads, cut_join, many_reads}
+use Rattle.class_pool.proofs.FirstFaultSteps.{StopsBy, Reads, never, reads_as, then_ok, part, check, asked, ask, by_question, number_reads, bytes_reads, two_reads, cut_join, many_reads, err_same}
 use Rattle.class_pool.proofs.FirstFaultFields.{attributes_stop}
 
 -- ---- instructions
@@ -193,14 +193,11 @@ module _ (pool : List PoolEntry) (s : Spelled) where
   abbrev checks : Result (List ℕ) ClassFault
   checks = code_checked pool s (insns_of pool s.code)
 
-  err_is : {A : Type 0} {g f : ClassFault} → ◌≡◌ {A = Result A ClassFault} (Err g) (Err f) → f ≡ g
-  err_is is = cc
-
   checks_found : (f : ClassFault) → checks ≡ Err f → Stop f
   checks_found f is = by_insns (insns_of pool s.code)
       (λ wrong pc failed.
       let found = insns_found pool s.code (length s.code) 0 pc wrong (omega arith) failed in
-      an_insn pc wrong found.leads found.inside found.fails (err_is (rw failed at is)))
+      an_insn pc wrong found.leads found.inside found.fails (sym (err_same (rw failed at is))))
       (λ insns read.
       let instructions = (insns_of_grammar pool s.code insns).0 read in
       by_jump (first_bad_jump s.code insns insns)
@@ -211,11 +208,11 @@ module _ (pool : List PoolEntry) (s : Spelled) where
       let bad = row_found pool s.code insns 0 s.rows wrong at failed in
       let place : ℕ = s.rows_place + 8 * length bad.before in
       let there : at ≡ length bad.before = omega (arith, bad.is) in
-      let this : f ≡ fault wrong place = err_is (rw (read, well, failed) at is) ∙ ap (λ (n : ℕ). fault wrong (s.rows_place + 8 * n)) there in
+      let this : f ≡ fault wrong place = sym (err_same (rw (read, well, failed) at is)) ∙ ap (λ (n : ℕ). fault wrong (s.rows_place + 8 * n)) there in
       a_row insns bad.before bad.more bad.row instructions ((no_bad_jump s.code insns insns).0 well) bad.among bad.all ((row_stops pool s.code insns bad.row place).found f (rw bad.failed (ap Err (sym this))))))
       (λ pc failed.
       let bad = jump_found pool s.code insns insns pc failed in
-      a_jump insns bad.before bad.more bad.placed instructions bad.among bad.well bad.ill (err_is (rw (read, failed) at is) ∙ ap (λ (n : ℕ). fault CodeBounds (s.code_place + n)) bad.is)))
+      a_jump insns bad.before bad.more bad.placed instructions bad.among bad.well bad.ill (sym (err_same (rw (read, failed) at is)) ∙ ap (λ (n : ℕ). fault CodeBounds (s.code_place + n)) bad.is)))
 
   checks_again : (f : ClassFault) → Stop f → checks ≡ Err f
   checks_again f (an_insn pc wrong leads inside failed is) = rw (insns_stop pool s.code (length s.code) (omega arith) leads inside failed) (ap Err (sym is))
@@ -228,7 +225,7 @@ module _ (pool : List PoolEntry) (s : Spelled) where
       by_question (first_failing (row_questions pool (length s.code) insns row))
       (λ passed. let wrong : ◌≡◌ {A = Result (Unit {0}) ClassFault} (Ok tt) (Err f) = rw passed at failed in absurd (cc))
       (λ wrong is.
-      let this : f ≡ fault wrong place = err_is (rw is at failed) in
+      let this : f ≡ fault wrong place = sym (err_same (rw is at failed)) in
       let zero_more : 0 + length before ≡ length before = omega arith in
       let bad : row_fault pool (length s.code) insns 0 s.rows ≡ Some (wrong, length before) = ap (row_fault pool (length s.code) insns 0) among ∙ rows_again pool s.code insns 0 before more row wrong all is ∙ ap (λ (n : ℕ). Some (wrong, n)) zero_more in
       rw ((insns_of_grammar pool s.code insns).1 instructions, (no_bad_jump s.code insns insns).1 well, bad) (ap Err (sym this)))

@@ -16,7 +16,7 @@ use Rattle.class_pool.specs.FirstFaultPool.{bytes_behind, Utf8Stops, OtherStops,
 use Rattle.class_pool.proofs.GrammarNumbers.{Takes, by_answer, joined, split}
 use Rattle.class_pool.proofs.Many.{with_front, with_first}
 use Rattle.class_pool.proofs.GrammarPool.{entry_read, entry_again}
-use Rattle.class_pool.proofs.FirstFaultSteps.{StopsBy, Reads, never, only, then_ok, part, check, either_one, either_other, cut, number_reads, bytes_reads, two_reads, cut_join, goes_on}
+use Rattle.class_pool.proofs.FirstFaultSteps.{StopsBy, Reads, never, only, then_ok, part, check, either_one, either_other, cut, number_reads, bytes_reads, two_reads, cut_join, goes_on, nothing_before, front_of_both}
 
 -- ---- an entry
 
@@ -133,14 +133,6 @@ module _ (size : ℕ) where
       rw given (first_entry o.0 rest o.1 t (is_double o.0) refl n _ (entries_answer (owed_by o.0 (place_of size rest)) n o.1 t.bytes)))
 
   -- what is read behind entries that are spelled so
-  no_front : (read : Result (List PoolEntry × List ℕ) ClassFault) → read ≡ with_front [] read
-  no_front (Ok r) = refl
-  no_front (Err f) = refl
-
-  one_more : (entry : PoolEntry) (before : List PoolEntry) (read : Result (List PoolEntry × List ℕ) ClassFault) → with_first entry (with_front before read) ≡ with_front (entry ∷ before) read
-  one_more entry before (Ok r) = refl
-  one_more entry before (Err f) = refl
-
   then_more : (entry : PoolEntry) {read other : Result (List PoolEntry × List ℕ) ClassFault} → read ≡ other → with_first entry read ≡ with_first entry other
   then_more entry same = ap (with_first entry) same
 
@@ -149,13 +141,13 @@ module _ (size : ℕ) where
   unfolding read_entries
   behind_entries no_entry n k rest left count parts =
       let same : n ≡ k = omega (arith, count) in
-      ap (λ (m : ℕ). read_entries size None m rest) same ∙ ap (read_entries size None k) parts ∙ no_front _
+      ap (λ (m : ℕ). read_entries size None m rest) same ∙ ap (read_entries size None k) parts ∙ nothing_before _
   behind_entries (single entry more first others plain spelled after) zero k rest left count parts = absurd (omega (arith, count))
   behind_entries (single entry more first others plain spelled after) (suc n) k rest left count parts =
       goes_on _ (entry_again size entry rest first (others ++ left) (split first others left parts refl) spelled)
-      (rw plain (then_more entry (behind_entries after n k (others ++ left) left (omega (arith, count)) refl) ∙ one_more entry more _))
+      (rw plain (then_more entry (behind_entries after n k (others ++ left) left (omega (arith, count)) refl) ∙ front_of_both (entry ∷ []) more _))
   behind_entries (twofold entry more first others double spelled after) zero k rest left count parts = absurd (omega (arith, count))
   behind_entries (twofold entry more first others double spelled after) (suc zero) k rest left count parts = absurd (omega (arith, count))
   behind_entries (twofold entry more first others double spelled after) (suc (suc n)) k rest left count parts =
       goes_on _ (entry_again size entry rest first (others ++ left) (split first others left parts refl) spelled)
-      (rw double (then_more entry (then_more Second (behind_entries after n k (others ++ left) left (omega (arith, count)) refl) ∙ one_more Second more _) ∙ one_more entry (Second ∷ more) _))
+      (rw double (then_more entry (then_more Second (behind_entries after n k (others ++ left) left (omega (arith, count)) refl) ∙ front_of_both (Second ∷ []) more _) ∙ front_of_both (entry ∷ []) (Second ∷ more) _))

@@ -1,8 +1,8 @@
 -- Indices, heads, attributes and fields: reading stops with exactly the faults of the relations by items.
-use Rattle.std.proofs.Common.{◌≡◌, ◌↔◌, ℕ, zero, suc, ◌+◌, ◌-◌, Bool, true, false, ◌&&◌, ◌==◌, if◌then◌else◌, List, [], ◌∷◌, ◌++◌, length, Option, Some, None, Result, Ok, Err, refl, sym, ap, subst, ◌∙◌, append_assoc, length-append, arith}
+use Rattle.std.proofs.Common.{◌≡◌, ◌↔◌, ℕ, zero, suc, ◌+◌, ◌-◌, Bool, true, false, ◌&&◌, ◌==◌, if◌then◌else◌, List, [], ◌∷◌, ◌++◌, length, Option, Some, None, Result, Ok, Err, refl, inl, inr, sym, ap, subst, ◌∙◌, append_assoc, length-append, arith}
 use Rattle.std.specs.Prelude.{IsSomeAnd, codes}
 use Rattle.std.specs.Bool.{Decides}
-use Rattle.std.proofs.lemmas.Bool.{false_from_ne_true}
+use Rattle.std.proofs.lemmas.Bool.{cases_Bool, false_from_ne_true}
 use Rattle.std.proofs.lemmas.List.{append-nil}
 use Rattle.std.proofs.lemmas.Bool.Decides.{Decides-eqb, Decides-and, not_from_Decides}
 use Rattle.jo_insn.proofs.Numbers.{AreBytes}
@@ -129,10 +129,6 @@ one_longer before x n = omega (arith, length-append before (x ∷ []))
 
 -- ---- the constants of a field
 
-by_test : {P : Type 0} (test : Bool) → (test ≡ true → P) → (test ≡ false → P) → P
-by_test true passed failed = passed refl
-by_test false passed failed = failed refl
-
 -- no constant is known yet
 abbrev is_fresh : Option ℕ → Bool
 is_fresh None = true
@@ -176,8 +172,10 @@ module _ (size : ℕ) (pool : List PoolEntry) (head : ℕ × ℕ × ℕ) where
   unfolding field_attribute
   attribute_in_a_row known rest = by_answer (text_index size pool rest) (λ f failed. rw failed refl) (λ name named. rw named (
       by_answer (number size 4 name.1) (λ f failed. rw failed refl) (λ count counted. rw counted (
-      by_test (is_value name.0) (λ is. rw is (value_in_a_row known (place_of size name.1) count.0 count.1)) (λ other. rw other (
-      by_answer (bytes_of size count.0 count.1) (λ f failed. rw failed refl) (λ content is. rw is refl)))))))
+      elim (cases_Bool (is_value name.0)) [
+        | inl is ↦ rw is (value_in_a_row known (place_of size name.1) count.0 count.1)
+        | inr other ↦ rw other (by_answer (bytes_of size count.0 count.1) (λ f failed. rw failed refl) (λ content is. rw is refl))
+      ]))))
 
   value_stops : (known : Option ℕ) (place count : ℕ) (rest : List ℕ) → AreBytes rest → StopsBy (of_value known place count rest) (ConstantStops size pool head.2 known place count rest)
   value_stops known place count rest bytes =
@@ -189,9 +187,10 @@ module _ (size : ℕ) (pool : List PoolEntry) (head : ℕ × ℕ × ℕ) where
   attribute_stops known rest bytes = reads_as (attribute_in_a_row known rest) (
       part (text_index_reads size pool) rest bytes _ (λ name at_length t.
       part (number_reads size 4) at_length t.bytes _ (λ count content u.
-      by_test (is_value name)
-      (λ is. either_one ((value_decided name).0 is) (rw is (value_stops known (place_of size at_length) count content u.bytes)))
-      (λ other. either_other (not_from_Decides _ (value_decided name) other) (rw other (then_ok _ _ (cut size count content _)))))))
+      elim (cases_Bool (is_value name)) [
+        | inl is ↦ either_one ((value_decided name).0 is) (rw is (value_stops known (place_of size at_length) count content u.bytes))
+        | inr other ↦ either_other (not_from_Decides _ (value_decided name) other) (rw other (then_ok _ _ (cut size count content _)))
+      ])))
 
   -- what an attribute adds to those before it
   abbrev Adds : Option ℕ → Option ℕ → List ℕ → Type 0

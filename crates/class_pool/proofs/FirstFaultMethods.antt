@@ -1,5 +1,5 @@
 -- Methods and the codes among their attributes: reading stops with exactly the faults of the relations by items.
-use Rattle.std.proofs.Common.{◌≡◌, ◌↔◌, inl, inr, ℕ, zero, suc, ◌+◌, ◌-◌, Bool, true, false, ◌&&◌, ◌||◌, not, if◌then◌else◌, ◌==◌, nat_lt, List, [], ◌∷◌, ◌++◌, length, Option, Some, None, Result, Ok, Err, refl, sym, ap, subst, ◌∙◌, append_assoc, arith}
+use Rattle.std.proofs.Common.{◌≡◌, ◌↔◌, inl, inr, ℕ, zero, suc, ◌+◌, ◌-◌, Bool, true, false, ◌&&◌, ◌||◌, not, if◌then◌else◌, ◌==◌, nat_lt, List, [], ◌∷◌, ◌++◌, length, Option, Some, None, Result, Ok, Err, refl, sym, ap, subst, ◌∙◌, arith}
 use Rattle.std.specs.Prelude.{codes}
 use Rattle.std.specs.Bool.{Decides}
 use Rattle.std.proofs.Math.Bool.{or-true}
@@ -27,19 +27,11 @@ use Rattle.class_pool.proofs.GrammarNumbers.{Takes, IsReadAs, by_answer, ends, t
 use Rattle.class_pool.proofs.GrammarParts.{named_decided, attribute_head_read, attribute_of, attribute_again}
 use Rattle.class_pool.proofs.GrammarCode.{code_read, code_again}
 use Rattle.class_pool.proofs.GrammarMethods.{method_read, method_again}
-use Rattle.class_pool.proofs.FirstFaultSteps.{Reads, never, reads_as, then_ok, part, ask, asked, by_question, either_one, either_other, cut, number_reads, fails_first, goes_on, bytes_left}
+use Rattle.class_pool.proofs.FirstFaultSteps.{Reads, never, reads_as, then_ok, part, ask, asked, by_question, either_one, either_other, cut, number_reads, fails_first, goes_on, bytes_left, nothing_before, front_of_both}
 use Rattle.class_pool.proofs.FirstFaultFields.{text_index_reads, head_reads}
 use Rattle.class_pool.proofs.FirstFaultCode.{code_reads}
 
 -- ---- one attribute
-
-nothing_before : {X : Type 0} (read : Result (List X × List ℕ) ClassFault) → read ≡ with_front [] read
-nothing_before (Ok o) = refl
-nothing_before (Err f) = refl
-
-front_of_both : {X : Type 0} (first others : List X) (read : Result (List X × List ℕ) ClassFault) → with_front first (with_front others read) ≡ with_front (first ++ others) read
-front_of_both {X} first others (Ok o) = ap (λ (xs : List X). Ok (xs, o.1)) (sym (append_assoc first others o.0))
-front_of_both first others (Err f) = refl
 
 module _ (size : ℕ) (pool : List PoolEntry) where
   abbrev is_code : ℕ → Bool

@@ -1,5 +1,5 @@
 -- Steps of reading: each stops with exactly the faults that the relations by items have there.
-use Rattle.std.proofs.Common.{◌≡◌, ◌↔◌, ℕ, zero, suc, ◌+◌, ◌<◌, nat_lt, Bool, true, false, if◌then◌else◌, List, [], ◌∷◌, ◌++◌, length, drop, Option, Some, None, Result, Ok, Err, inl, inr, refl, sym, ap, subst, ◌∙◌, length-append, arith}
+use Rattle.std.proofs.Common.{◌≡◌, ◌↔◌, ℕ, zero, suc, ◌+◌, ◌<◌, nat_lt, Bool, true, false, if◌then◌else◌, List, [], ◌∷◌, ◌++◌, length, drop, Option, Some, None, Result, Ok, Err, inl, inr, refl, sym, ap, subst, ◌∙◌, append_assoc, length-append, arith}
 use Rattle.std.specs.Bool.{Decides}
 use Rattle.std.proofs.lemmas.Bool.{true≢false}
 use Rattle.std.proofs.lemmas.Bool.Decides.{Decides-ltb}
@@ -12,6 +12,7 @@ use Rattle.class_pool.specs.Items.{◌>>=◌, fault, passing, number, bytes_of, 
 use Rattle.class_pool.specs.Pool.{first_failing}
 use Rattle.class_pool.specs.ClassGrammar.{SpellsEach}
 use Rattle.class_pool.specs.FirstFaultItems.{IsCut, Never, Check, fails, passes, Either, Item, stops, behind, SpellsNumber, SpellsBytes, OneStops, SpellsMany}
+use Rattle.class_pool.proofs.Many.{with_front}
 use Rattle.class_pool.proofs.GrammarNumbers.{Takes, IsReadAs, by_answer, joined, split, number_read, number_again, SpellsTwo, two_read, two_again, bytes_read, bytes_again}
 use Rattle.class_pool.proofs.GrammarMany.{EachIsSpelled, EachIsRead, many_read, many_again}
 
@@ -185,6 +186,15 @@ two_reads size = record {
 }
 
 -- ---- so many items
+
+-- what was read before, and what is read behind it
+pub nothing_before : {X : Type 0} (read : Result (List X × List ℕ) ClassFault) → read ≡ with_front [] read
+nothing_before (Ok o) = refl
+nothing_before (Err f) = refl
+
+pub front_of_both : {X : Type 0} (first others : List X) (read : Result (List X × List ℕ) ClassFault) → with_front first (with_front others read) ≡ with_front (first ++ others) read
+front_of_both {X} first others (Ok o) = ap (λ (xs : List X). Ok (xs, o.1)) (sym (append_assoc first others o.0))
+front_of_both first others (Err f) = refl
 
 pub bytes_left : (rest text left : List ℕ) → rest ≡ text ++ left → AreBytes rest → AreBytes left
 bytes_left rest text left parts bytes = subst AreBytes (ap (drop (length text)) parts ∙ drop_at text left (length text) refl) (bytes_behind (length text) rest bytes)

@@ -127,8 +127,8 @@ Catches pool row = (row.catch_type ≡ 0) ⊎ IsSomeAnd (class_name_at pool row.
 abbrev pub RowStops : List PoolEntry → List ℕ → List Placed → RowInfo → ℕ → ClassFault → Type 0
 RowStops pool code insns row place f = Check (IsInCode code insns row) CodeBounds place (Check (Catches pool row) PoolIndex place Never) f
 
--- The code, the first of its rows and both their places: an instruction in order of pc, else an instruction that jumps
--- elsewhere than to an instruction, else a row.
+-- Code and its rows, with the places of both. An instruction stops, in order of pc; else one jumps elsewhere than to an
+-- instruction; else a row stops.
 pub data ChecksStop (pool : List PoolEntry) (code : List ℕ) (code_place : ℕ) (rows : List RowInfo) (rows_place : ℕ) (f : ClassFault) : Type 0 where
   an_insn : (pc : ℕ) (wrong : ClassCode) → LeadsTo pool code 0 pc → pc < length code → InsnFails pool code pc wrong → f ≡ fault wrong (code_place + pc) → ChecksStop pool code code_place rows rows_place f
   a_jump : (insns before more : List Placed) (placed : Placed) → AreInsnsFrom pool code 0 insns → insns ≡ before ++ placed ∷ more → AllByRecursion (JumpsWell code insns) before
