@@ -8,3 +8,4 @@ pub mod Relevance
 pub mod Sides
 pub mod TwoRuns
 pub mod Verdicts
+pub mod WorkedClean

@@ -1,0 +1,8 @@
+use Rattle.low_run.proofs.WorkedClean.{worked_clean, worked_clean_graph}
+use Rattle.low_run.proofs.laws.worked_verdicts.Goals as goal
+
+pub returns-clause-clean_edges : goal.returns-clause-clean_edges
+returns-clause-clean_edges c = worked_clean
+
+pub returns-clause-clean_graph : goal.returns-clause-clean_graph
+returns-clause-clean_graph c = worked_clean_graph
