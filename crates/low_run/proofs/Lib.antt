@@ -1,5 +1,6 @@
 pub mod Agreement
 pub mod CleanRuns
+pub mod LeakChain
 pub mod LeakRuns
 pub mod PlainFrames
 pub mod PlainGiven

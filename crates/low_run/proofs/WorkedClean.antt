@@ -1,5 +1,5 @@
 -- The worked program is clean: its secret goes to the local that holds it, and no further.
-use Rattle.std.proofs.Common.{◌≡◌, ◌⊎◌, inl, inr, ℕ, ◌+◌, ◌-◌, ◌==◌, Bool, true, false, ◌||◌, cond, List, [], ◌∷◌, map, Option, Some, None, Contains, refl, sym, ap, subst, ◌∙◌}
+use Rattle.std.proofs.Common.{◌≡◌, ◌⊎◌, inl, inr, ℕ, ◌+◌, ◌-◌, ◌==◌, Bool, true, false, ◌||◌, List, [], ◌∷◌, map, Option, Some, None, Contains, refl, sym, ap, subst, ◌∙◌}
 use Rattle.std.proofs.lemmas.Bool.{cases_Bool, false≢true, eqb-true}
 use Rattle.std.proofs.lemmas.Option.{none-some, same_Some, some_pair_parts}
 use Rattle.jo_insn.specs.Opcodes.{opcodes, row_of}
@@ -132,7 +132,7 @@ node_7 = ap (node_of 7) at_7
 node_8 : node_at worked_program 3 8 ≡ Instr 8
 node_8 = ap (node_of 8) at_8
 
-abbrev shape : List Kind → List Kind → Shape
+abbrev pub shape : List Kind → List Kind → Shape
 shape locals stack = record { locals = locals; stack = stack }
 
 arrives_4 : Arrives worked_program 3 worked_code 4 (shape (Int ∷ Unset ∷ []) [])

@@ -39,10 +39,13 @@ pub fn worked_leak()
     ensures { Secure leaking_program worked_labels → ⊥ }
 {}
 
-/// Clean is no empty word: the worked program is clean, with the graph as data or without one.
+/// The verdict tells programs apart: the worked program is clean, and the one that shows its secret isn't, along their
+/// dependence edges as in each graph of them.
 pub fn worked_verdicts()
     ensures clean_edges { AllCleanByEdges worked_program worked_labels }
     ensures clean_graph { (graph : Graph) → IsDependenceGraph worked_program worked_labels graph → CleanForAll graph worked_labels }
+    ensures leak_edges { AllCleanByEdges leaking_program worked_labels → ⊥ }
+    ensures leak_graph { (graph : Graph) → IsDependenceGraph leaking_program worked_labels graph → CleanForAll graph worked_labels → ⊥ }
 {}
 
 /// Agreement: a run that hasn't ended agrees with each that goes on from it; of two ended runs neither shows more; and where
