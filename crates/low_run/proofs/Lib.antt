@@ -1,5 +1,6 @@
 pub mod Agreement
 pub mod CleanRuns
+pub mod LeakChain
 pub mod LeakRuns
 pub mod PlainFrames
 pub mod PlainGiven
@@ -8,3 +9,4 @@ pub mod Relevance
 pub mod Sides
 pub mod TwoRuns
 pub mod Verdicts
+pub mod WorkedClean

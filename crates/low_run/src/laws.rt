@@ -3,7 +3,7 @@ ghost use Rattle.std.specs.Prelude.{◌≢◌, ◌⊎◌, ◌↔◌, ℕ, ℤ, B
 ghost use Rattle.jo_prog.specs.Machine.{State, step};
 ghost use Rattle.jo_prog.specs.PlainCode.{IsPlainProgram};
 ghost use Rattle.jo_prog.specs.Runs.{enabled};
-ghost use Rattle.jo_prog.specs.Worked.{worked_labels};
+ghost use Rattle.jo_prog.specs.Worked.{worked_labels, worked_program};
 ghost use Rattle.jo_prog.specs.declared.labels.Labels.{Labels};
 ghost use Rattle.jo_prog.specs.declared.program.Program.{Program};
 ghost use Rattle.jo_prog.specs.declared.runs.Event.{Event};
@@ -37,6 +37,15 @@ pub fn illegal_chains_are_of_the_program()
 /// Security is no empty word: the worked program that shows its secret isn't secure.
 pub fn worked_leak()
     ensures { Secure leaking_program worked_labels → ⊥ }
+{}
+
+/// The verdict tells programs apart: the worked program is clean, and the one that shows its secret isn't, along their
+/// dependence edges as in each graph of them.
+pub fn worked_verdicts()
+    ensures clean_edges { AllCleanByEdges worked_program worked_labels }
+    ensures clean_graph { (graph : Graph) → IsDependenceGraph worked_program worked_labels graph → CleanForAll graph worked_labels }
+    ensures leak_edges { AllCleanByEdges leaking_program worked_labels → ⊥ }
+    ensures leak_graph { (graph : Graph) → IsDependenceGraph leaking_program worked_labels graph → CleanForAll graph worked_labels → ⊥ }
 {}
 
 /// Agreement: a run that hasn't ended agrees with each that goes on from it; of two ended runs neither shows more; and where
