@@ -1,5 +1,5 @@
 -- What was read so far, in front of what is read behind it.
-use Rattle.std.proofs.Common.{◌≡◌, ◌<◌, ◌≤◌, ◌+◌, ◌==◌, Bool, true, false, cond, ℕ, suc, List, [], ◌∷◌, ◌++◌, length, Option, Some, None, option_map, refl, sym, ap, ◌∙◌, append_assoc, append-nil, arith}
+use Rattle.std.proofs.Common.{◌≡◌, ◌<◌, ◌≤◌, ◌+◌, ◌==◌, Bool, true, false, cond, ℕ, suc, List, [], ◌∷◌, ◌++◌, length, Option, Some, None, refl, ap, ◌∙◌, append_assoc, append-nil, arith}
 use Rattle.class_asm.specs.ItemScan.{first_of}
 use Rattle.class_asm.specs.declared.statements.Number.{Number}
 use Rattle.class_asm.specs.declared.statements.Case.{Case}
@@ -7,7 +7,7 @@ use Rattle.class_asm.specs.Words.{◌>>=◌, label_in, number_in}
 use Rattle.class_asm.specs.declared.statements.Statement.{Statement}
 use Rattle.class_asm.specs.declared.texts.NumberedLine.{NumberedLine}
 use Rattle.class_asm.specs.Lines.{onto, lines_of}
-use Rattle.class_asm.specs.Statements.{Items, labels, cases, statement_of}
+use Rattle.class_asm.specs.Statements.{Items, cases, statement_of}
 use Rattle.class_asm.specs.Layout.{numbered}
 
 abbrev pub with_front : {X : Type 0} → List X → Option (List X) → Option (List X)

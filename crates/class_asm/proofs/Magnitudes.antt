@@ -1,8 +1,8 @@
 -- Numbers that are cut off at 2^32.
-use Rattle.std.proofs.Common.{◌≡◌, ℕ, ◌+◌, ◌-◌, ◌*◌, ◌<◌, ◌≤◌, ◌^◌, Bool, true, false, cond, ◌==◌, nat_lt, nat_le, min, List, [], ◌∷◌, length, drop, get_or, add-one, drop-cons, refl, sym, ap, ◌∙◌, subst, arith}
+use Rattle.std.proofs.Common.{◌≡◌, ℕ, ◌+◌, ◌-◌, ◌*◌, ◌<◌, ◌≤◌, ◌^◌, Bool, true, false, ◌==◌, nat_lt, nat_le, min, List, [], ◌∷◌, length, drop, get_or, add-one, drop-cons, refl, sym, ap, ◌∙◌, arith}
 use Rattle.std.proofs.lemmas.Bool.Decides.{nat_tests}
 use Rattle.class_asm.specs.declared.statements.Number.TheVariants.{TooLarge}
-use Rattle.class_asm.specs.Words.{magnitude_from, magnitude, number_of}
+use Rattle.class_asm.specs.Words.{magnitude_from, number_of}
 
 at_least : (m : ℕ) (digits : List ℕ) → m ≤ magnitude_from m digits
 at_least m [] = omega arith

@@ -1,11 +1,10 @@
 -- A name or a quoted text is what its spelling is read as.
-use Rattle.std.proofs.Common.{◌≡◌, ℕ, ◌+◌, ◌-◌, ◌*◌, ◌/◌, ◌%◌, ◌<◌, ◌^◌, Bool, true, false, cond, ◌&&◌, ◌==◌, nat_lt, List, [], ◌∷◌, ◌++◌, suc, length, length-append, take, drop, Option, Some, None, refl, sym, ap, ◌∙◌, subst, arith}
-use Rattle.std.specs.List.{AllByRecursion, list_all}
+use Rattle.std.proofs.Common.{◌≡◌, ℕ, ◌+◌, ◌-◌, ◌*◌, ◌/◌, ◌%◌, ◌<◌, ◌^◌, Bool, true, false, cond, ◌&&◌, ◌==◌, nat_lt, List, [], ◌∷◌, ◌++◌, suc, length, length-append, take, Some, None, refl, sym, ap, ◌∙◌, arith}
+use Rattle.std.specs.List.{AllByRecursion}
 use Rattle.std.specs.Str.{bytes_eq}
 use Rattle.std.proofs.lemmas.Bool.Decides.{nat_tests}
 use Rattle.std.proofs.lemmas.Slice.Eq.{bytes_eq-Decides}
-use Rattle.std.proofs.lemmas.Grind.{common_steps}
-use Rattle.jo_text.specs.Escapes.{hex_digit, escape_of, escaped_byte_where, escaped_where, is_escaped, is_escaped_in_quotes, escaped, quoted}
+use Rattle.jo_text.specs.Escapes.{hex_digit, escape_of, escaped_where, is_escaped, is_escaped_in_quotes, escaped, quoted}
 use Rattle.class_asm.specs.Words.{passing, digit_value, bytes_in, are_bytes, spelled_in, inside, name_in, quoted_in}
 
 -- ---- bytes behind each other

@@ -1,17 +1,16 @@
 -- The class that a text says, or its first fault (this project's own; the parts are those of the JVM Specification SE 8,
 -- 4.1, 4.5 to 4.7).
-use Rattle.std.specs.Prelude.{ℕ, ◌+◌, ◌^◌, min, Bool, true, false, ◌&&◌, not, nat_lt, nat_le, ◌==◌, if◌then◌else◌, List, [], ◌∷◌, ◌++◌, length, Option, Some, None, Result, Ok, Err, codes}
+use Rattle.std.specs.Prelude.{ℕ, ◌+◌, Bool, true, false, ◌&&◌, not, nat_lt, nat_le, ◌==◌, if◌then◌else◌, List, [], ◌∷◌, ◌++◌, length, Option, Some, None, Result, Ok, Err, codes}
 use Rattle.class_pool.specs.declared.entries.PoolEntry.{PoolEntry}
 use Rattle.class_pool.specs.declared.classes.ClassFile.{ClassFile}
 use Rattle.class_pool.specs.declared.classes.FieldInfo.{FieldInfo}
 use Rattle.class_pool.specs.declared.classes.MethodInfo.{MethodInfo}
-use Rattle.class_pool.specs.declared.classes.CodeInfo.{CodeInfo}
 use Rattle.class_pool.specs.declared.classes.RowInfo.{RowInfo}
 use Rattle.class_asm.specs.declared.statements.Constant as constants
 use Rattle.class_asm.specs.declared.statements.Limits.{Limits}
 use Rattle.class_asm.specs.declared.statements.Operation.{Operation}
 use Rattle.class_asm.specs.declared.statements.Statement.{Statement}
-use Rattle.class_asm.specs.declared.statements.Statement.TheVariants.{Class, Implements, Field, Method, Label, Instruction, Catch, End}
+use Rattle.class_asm.specs.declared.statements.Statement.TheVariants.{Class, Implements, Field, Method, Label, Instruction, Catch}
 use Rattle.class_asm.specs.declared.texts.NumberedLine.{NumberedLine}
 use Rattle.class_asm.specs.declared.causes.Cause.{Cause}
 use Rattle.class_asm.specs.declared.causes.Cause.TheVariants as causes

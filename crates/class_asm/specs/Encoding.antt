@@ -1,6 +1,6 @@
 -- The bytes of operations, once labels have pcs (this project's own; JVM Specification SE 8, 4.7.3 and
 -- 6.5). Each is in order, or has the lowest cause of a fault: a label that isn't set comes before what doesn't fit its field.
-use Rattle.std.specs.Prelude.{ℕ, ◌+◌, ◌-◌, ◌%◌, ◌^◌, Bool, true, false, ◌&&◌, not, nat_lt, ◌==◌, if◌then◌else◌, ℤ, pos, int_lt, unsigned_abs, ◌+ℤ◌, ◌-ℤ◌, List, [], ◌∷◌, ◌++◌, length, replicate, Option, Some, None, Result, Ok, Err}
+use Rattle.std.specs.Prelude.{ℕ, ◌+◌, ◌-◌, ◌%◌, ◌^◌, Bool, true, false, ◌&&◌, not, nat_lt, if◌then◌else◌, ℤ, pos, int_lt, unsigned_abs, ◌+ℤ◌, ◌-ℤ◌, List, [], ◌∷◌, ◌++◌, length, replicate, Option, Some, None, Result, Ok, Err}
 use Rattle.std.specs.List.{list_all}
 use Rattle.std.specs.Option.{is_some}
 use Rattle.byteorder.specs.Endian.{big_bytes}
@@ -18,7 +18,7 @@ use Rattle.class_asm.specs.declared.statements.Operation.{Operation}
 use Rattle.class_asm.specs.declared.statements.Operation.TheVariants.{Plain, Local, Iinc, Push, Load, OfClass, OfMember, NewArray, Jump, TableSwitch, LookupSwitch}
 use Rattle.class_asm.specs.declared.causes.Cause.{Cause}
 use Rattle.class_asm.specs.declared.causes.Cause.TheVariants.{Label, Range}
-use Rattle.class_asm.specs.Needs.{Needed, need_class, need_constant, need_member, reference_by}
+use Rattle.class_asm.specs.Needs.{need_class, need_constant, need_member, reference_by}
 use Rattle.class_asm.specs.Layout.{Setting, setting_of, is_interface_call}
 
 infixl 10 ◌>>=◌

@@ -1,5 +1,5 @@
 -- Where lines and items end. Private functions compute these; the public contracts cite `Lines` alone.
-use Rattle.std.specs.Prelude.{ℕ, zero, suc, Bool, if◌then◌else◌, List, [], ◌∷◌, Option, Some, None}
+use Rattle.std.specs.Prelude.{ℕ, suc, Bool, if◌then◌else◌, List, [], ◌∷◌, Option, Some, None}
 use Rattle.class_asm.specs.Lines.{is_parting, quoted_behind}
 
 -- the length of the item that begins the text

@@ -1,6 +1,6 @@
 -- Where the lines of a method's code stand, and its labels (this project's own; sizes of instructions by the JVM
 -- Specification SE 8, 6.5).
-use Rattle.std.specs.Prelude.{ℕ, ◌+◌, ◌*◌, Bool, true, false, ◌&&◌, not, ◌==◌, if◌then◌else◌, List, [], ◌∷◌, ◌++◌, length, Option, Some, None}
+use Rattle.std.specs.Prelude.{ℕ, ◌+◌, ◌*◌, Bool, true, false, not, if◌then◌else◌, List, [], ◌∷◌, ◌++◌, length, Option, Some, None}
 use Rattle.std.specs.Str.{bytes_eq}
 use Rattle.jo_insn.specs.declared.opcodes.Operands.{Operands}
 use Rattle.jo_insn.specs.declared.opcodes.Operands.TheVariants.{SignedByte, PoolByte, PoolShortAndTwo, OffsetInt}
@@ -9,7 +9,7 @@ use Rattle.jo_insn.specs.Instructions.{offsets_at, pairs_at}
 use Rattle.class_asm.specs.declared.statements.Operation.{Operation}
 use Rattle.class_asm.specs.declared.statements.Operation.TheVariants.{Plain, Local, Iinc, Push, Load, OfClass, OfMember, NewArray, Jump, TableSwitch, LookupSwitch}
 use Rattle.class_asm.specs.declared.statements.Statement.{Statement}
-use Rattle.class_asm.specs.declared.statements.Statement.TheVariants.{Class, Implements, Field, Method, Label, Instruction, Catch, End}
+use Rattle.class_asm.specs.declared.statements.Statement.TheVariants.{Label, Instruction, Catch, End}
 use Rattle.class_asm.specs.declared.texts.NumberedLine.{NumberedLine}
 use Rattle.class_asm.specs.Statements.{statement_of}
 

@@ -1,5 +1,5 @@
 -- A pool under construction in memory. Private functions compute this; the definition cites `Needs` alone.
-use Rattle.std.specs.Prelude.{◌≡◌, ℕ, ◌<◌, ◌≤◌, ◌^◌, List, length, map, Option, Some, None, Result, Ok, Err}
+use Rattle.std.specs.Prelude.{◌≡◌, ℕ, ◌≤◌, List, length, map, Option, Some, None, Result, Ok, Err}
 use Rattle.class_pool.specs.declared.entries.PoolEntry.{PoolEntry}
 use Rattle.class_pool.specs.Writing.{spelled_entry}
 use Rattle.class_asm.specs.declared.pool_maker.PoolMaker.{PoolMaker}

@@ -1,6 +1,6 @@
 -- The entries of the pool that the lines of a text need (JVM Specification SE 8, 4.4). They are made at first need (this
 -- project's own): first the parts of an entry, in the order of its fields, then the entry, unless an equal one is there.
-use Rattle.std.specs.Prelude.{ℕ, ◌+◌, ◌^◌, Bool, nat_lt, ◌==◌, if◌then◌else◌, ℤ, List, [], ◌∷◌, ◌++◌, length, position, Option, Some, None, codes}
+use Rattle.std.specs.Prelude.{ℕ, ◌+◌, ◌^◌, Bool, nat_lt, ◌==◌, if◌then◌else◌, List, [], ◌∷◌, ◌++◌, length, position, Option, Some, None, codes}
 use Rattle.std.specs.Str.{bytes_eq}
 use Rattle.class_pool.specs.declared.entries.PoolEntry.{PoolEntry}
 use Rattle.class_pool.specs.declared.entries.PoolEntry.TheVariants.{Utf8, Integer, Class, Text, FieldRef, MethodRef, InterfaceMethodRef, NameAndType}

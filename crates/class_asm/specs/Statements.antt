@@ -1,7 +1,7 @@
 -- What a line says (this project's own; opcodes, names and descriptors by the JVM Specification SE 8, 6.5, 4.2 and 4.3).
 -- Each reader takes the items that are left of a line, and gives what it read and the items behind it, or what the rest of
 -- the line says.
-use Rattle.std.specs.Prelude.{ℕ, zero, suc, ◌+◌, ◌-◌, Bool, true, false, ◌&&◌, not, nat_lt, ◌==◌, if◌then◌else◌, List, [], ◌∷◌, length, take, Option, Some, None, option_map, slice_index, codes}
+use Rattle.std.specs.Prelude.{ℕ, ◌-◌, Bool, true, false, nat_lt, ◌==◌, if◌then◌else◌, List, [], ◌∷◌, length, take, Option, Some, None, option_map, slice_index, codes}
 use Rattle.std.specs.Str.{bytes_eq}
 use Rattle.jo_insn.specs.declared.opcodes.Operands.{Operands}
 use Rattle.jo_insn.specs.declared.opcodes.Operands.TheVariants.{NoOperand, SignedByte, SignedShort, LocalByte, LocalAndStep, WidePrefix, PoolByte, PoolShort, PoolShortAndTwo, ArrayKind, OffsetShort, OffsetInt, OffsetTable, KeyTable}
@@ -21,7 +21,7 @@ use Rattle.class_asm.specs.declared.words.Kind.{Kind}
 use Rattle.class_asm.specs.declared.words.Kind.TheVariants.{ClassName, ClassOrArray, MemberName, FieldDesc, MethodDesc}
 use Rattle.class_asm.specs.Lines.{items_of, ends_in_space}
 use Rattle.class_asm.specs.ItemScan.{first_of}
-use Rattle.class_asm.specs.Words.{◌>>=◌, passing, name_in, quoted_in, kept, name_of_kind, is_label, label_in, number_in, flags_in, field_in, method_in}
+use Rattle.class_asm.specs.Words.{◌>>=◌, passing, name_in, quoted_in, kept, name_of_kind, label_in, number_in, flags_in, field_in, method_in}
 
 abbrev pub Items : Type 0
 Items = List (List ℕ)

@@ -1,5 +1,5 @@
 //! The bytes of operations, once labels have pcs.
-ghost use Rattle.std.specs.Prelude.{◌≡◌, ◌≤◌, ◌<◌, ◌^◌, ◌+ℤ◌, ◌-◌, ◌∷◌, ◌++◌, pos, length, IfOk};
+ghost use Rattle.std.specs.Prelude.{◌≡◌, ◌≤◌, ◌<◌, ◌^◌, ◌+ℤ◌, ◌-◌, ◌∷◌, ◌++◌, pos, IfOk};
 ghost use Rattle.jo_insn.specs.Instructions.{u2};
 ghost use Rattle.jo_insn.specs.Opcodes.{operands_of as operands_with};
 ghost use Rattle.class_asm.specs.Halts.{Comes};

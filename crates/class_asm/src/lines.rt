@@ -1,5 +1,5 @@
 //! The lines of a text, and the items of a line.
-ghost use Rattle.std.specs.Prelude.{◌≡◌, ◌≢◌, ◌≤◌, ℕ, false, true, not, ◌==◌, IsTrue, ◌↔◌, length, option_map, slice_index};
+ghost use Rattle.std.specs.Prelude.{◌≡◌, ◌≢◌, ◌≤◌, false, not, ◌==◌, length, option_map, slice_index};
 ghost use Rattle.std.specs.List.{prefix_len};
 ghost use Rattle.class_asm.specs.Lines.{lines_of, items_of, is_parting as parts_items, quoted_behind as quotes_after, ends_in_space as ends_so};
 ghost use Rattle.class_asm.specs.ItemScan.{item_length as length_with, first_of};

@@ -1,5 +1,5 @@
 //! The pool of a class while its lines are assembled: each entry is made at first need.
-ghost use Rattle.std.specs.Prelude.{◌≡◌, [], ◌<◌, ◌≤◌, ◌^◌, length, OnOk, IfOk, codes};
+ghost use Rattle.std.specs.Prelude.{◌≡◌, [], ◌<◌, OnOk};
 ghost use Rattle.class_pool.specs.Writing.{FitsEntry};
 ghost use Rattle.class_asm.specs.Needs.{need as need_of, need_text as text_of, need_class as class_of, need_number as number_of, need_string as string_of, need_constant as constant_of, need_member as member_of, need_caught as caught_of, need_head as head_of, need_value as value_of, reference_by};
 ghost use Rattle.class_asm.specs.Making.{IsMaker, Makes, HeadMade, ValueMade};

@@ -1,11 +1,11 @@
 //! Reads what a line says. `rest` is what is left of the line.
-ghost use Rattle.std.specs.Prelude.{◌≡◌, codes};
+ghost use Rattle.std.specs.Prelude.{◌≡◌};
 ghost use Rattle.jo_insn.specs.Opcodes.{operands_of as operands_with};
 ghost use Rattle.class_asm.specs.Outcomes.{Gives};
 ghost use Rattle.class_asm.specs.Lines.{items_of};
 ghost use Rattle.class_asm.specs.ItemScan.{first_of};
 ghost use Rattle.class_asm.specs.Words.{field_in, method_in};
-ghost use Rattle.class_asm.specs.Statements.{at_end as at_end_of, behind_word as after_word, named as named_in, label as next_label, number as next_number, flag_words, begins_quoted as is_quoted_text, constant_in, constant as next_constant, class_words, implements_words, value_words, field_words, limit_words, method_words, caught_named, caught_in, catch_words, labels as labels_of, cases as cases_of, local_words, iinc_words, widened as widened_in, wide_words, push_words, load_words, member_words, class_operand, pooled_words, array_words, jump_words, table_words, lookup_words, operand_words, insn_words, ends_in_colon as sets_label, label_set, code_words, words as words_of, statement_of, item_by};
+ghost use Rattle.class_asm.specs.Statements.{at_end as at_end_of, behind_word as after_word, named as named_in, label as next_label, number as next_number, flag_words, begins_quoted as is_quoted_text, constant_in, constant as next_constant, class_words, implements_words, value_words, field_words, limit_words, method_words, caught_named, caught_in, catch_words, labels as labels_of, cases as cases_of, local_words, iinc_words, wide_words, push_words, load_words, member_words, class_operand, pooled_words, array_words, jump_words, table_words, lookup_words, operand_words, insn_words, ends_in_colon as sets_label, label_set, code_words, words as words_of, statement_of};
 
 use crate::lines::{ends_in_space, next_item};
 use crate::statements::{Case, Constant, Limits, Number, Operation, Statement};

@@ -1,5 +1,5 @@
-use Rattle.std.proofs.Common.{◌≡◌, ◌<◌, ◌≤◌, ◌^◌, ◌∙◌, drop, arith}
-use Rattle.class_asm.specs.Layout.{next_pc, size_from}
+use Rattle.std.proofs.Common.{◌≡◌, ◌∙◌, drop, arith}
+use Rattle.class_asm.specs.Layout.{next_pc}
 use Rattle.class_asm.proofs.Sizes.{at_least, next_place, next_whole, next_labels}
 use Rattle.class_asm.proofs.layout.labels_of.Goals as goal
 

@@ -1,4 +1,4 @@
-use Rattle.std.proofs.Common.{◌≡◌, ◌≤◌, ◌^◌, [], false, drop}
+use Rattle.std.proofs.Common.{◌≡◌, [], false, drop}
 use Rattle.class_asm.specs.Layout.{size_from, settings_by}
 use Rattle.class_asm.proofs.layout.labels_of.Given as goal
 

@@ -1,4 +1,4 @@
-use Rattle.std.proofs.Common.{◌≡◌, ◌≤◌, ◌^◌, ◌∙◌, arith}
+use Rattle.std.proofs.Common.{◌≤◌, ◌^◌, ◌∙◌, arith}
 use Rattle.class_asm.proofs.Sizes.{next_size}
 use Rattle.class_asm.proofs.layout.size_of.Goals as goal
 

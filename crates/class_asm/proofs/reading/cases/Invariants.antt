@@ -1,4 +1,4 @@
-use Rattle.std.proofs.Common.{◌≡◌, length, ◌++◌}
+use Rattle.std.proofs.Common.{◌≡◌, length}
 use Rattle.class_asm.specs.Lines.{items_of}
 use Rattle.class_asm.specs.Statements.{cases}
 use Rattle.class_asm.proofs.Behind.{with_front}

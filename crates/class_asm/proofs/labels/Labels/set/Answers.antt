@@ -1,6 +1,6 @@
-use Rattle.std.proofs.Common.{◌≡◌, ◌++◌, [], map, None, option_map, ap, ◌∙◌}
+use Rattle.std.proofs.Common.{◌≡◌, ◌++◌, map, None, ap, ◌∙◌}
 use Rattle.class_asm.specs.Layout.{setting_of}
-use Rattle.class_asm.specs.Labelled.{setting_in, place_in}
+use Rattle.class_asm.specs.Labelled.{setting_in}
 use Rattle.class_asm.proofs.LabelPlaces.{set_new, nothing_found}
 use Rattle.class_asm.proofs.labels.Labels.set.Goals as goal
 

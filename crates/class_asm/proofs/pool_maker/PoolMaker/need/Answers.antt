@@ -1,4 +1,4 @@
-use Rattle.std.proofs.Common.{rules, ◌≡◌, ◌<◌, ◌≤◌, ℕ, ◌+◌, [], ◌∷◌, ◌++◌, length, Result, subst, None, Some, sym, ap, ◌∙◌, arith}
+use Rattle.std.proofs.Common.{◌≡◌, ◌<◌, ◌≤◌, ℕ, ◌+◌, [], ◌∷◌, ◌++◌, length, Result, subst, Some, sym, ap, ◌∙◌, arith}
 use Rattle.class_pool.specs.Writing.{spelled_entry}
 use Rattle.class_asm.specs.declared.pool_maker.Lack.{Lack}
 use Rattle.class_asm.specs.Needs.{need}
