@@ -1,11 +1,11 @@
 -- Sizes of code that are cut off at 2^20, and labels behind each other.
 use Rattle.std.proofs.Common.{◌≡◌, ℕ, suc, ◌+◌, ◌-◌, ◌<◌, ◌≤◌, ◌^◌, Bool, true, false, cond, nat_le, min, List, [], ◌∷◌, length, drop, get_or, add-one, drop-cons, Option, Some, None, refl, sym, ap, ◌∙◌, arith}
 use Rattle.std.proofs.lemmas.Bool.Decides.{nat_tests}
-use Rattle.class_asm.specs.declared.statements.Operation.{Operation}
-use Rattle.class_asm.specs.declared.statements.Operation.TheVariants.{Plain, Local, Iinc, Push, Load, OfClass, OfMember, NewArray, Jump, TableSwitch, LookupSwitch}
-use Rattle.class_asm.specs.declared.statements.Statement.{Statement}
-use Rattle.class_asm.specs.declared.statements.Statement.TheVariants.{Class, Implements, Field, Method, Label, Instruction, Catch, End}
-use Rattle.class_asm.specs.declared.texts.NumberedLine.{NumberedLine}
+use Rattle.asm_text.specs.declared.statements.Operation.{Operation}
+use Rattle.asm_text.specs.declared.statements.Operation.TheVariants.{Plain, Local, Iinc, Push, Load, OfClass, OfMember, NewArray, Jump, TableSwitch, LookupSwitch}
+use Rattle.asm_text.specs.declared.statements.Statement.{Statement}
+use Rattle.asm_text.specs.declared.statements.Statement.TheVariants.{Class, Implements, Field, Method, Label, Instruction, Catch, End}
+use Rattle.asm_text.specs.declared.texts.NumberedLine.{NumberedLine}
 use Rattle.class_asm.specs.Layout.{Setting, settings_by, next_settings, where_stands, stands, pc_behind, pc_after, next_caught, next_pc, size_from}
 
 further : (pc : ℕ) (operation : Operation) → pc ≤ pc_behind pc operation

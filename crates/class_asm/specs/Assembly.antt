@@ -6,18 +6,19 @@ use Rattle.class_pool.specs.declared.classes.ClassFile.{ClassFile}
 use Rattle.class_pool.specs.declared.classes.FieldInfo.{FieldInfo}
 use Rattle.class_pool.specs.declared.classes.MethodInfo.{MethodInfo}
 use Rattle.class_pool.specs.declared.classes.RowInfo.{RowInfo}
-use Rattle.class_asm.specs.declared.statements.Constant as constants
-use Rattle.class_asm.specs.declared.statements.Limits.{Limits}
-use Rattle.class_asm.specs.declared.statements.Operation.{Operation}
-use Rattle.class_asm.specs.declared.statements.Statement.{Statement}
-use Rattle.class_asm.specs.declared.statements.Statement.TheVariants.{Class, Implements, Field, Method, Label, Instruction, Catch}
-use Rattle.class_asm.specs.declared.texts.NumberedLine.{NumberedLine}
+use Rattle.asm_text.specs.declared.statements.Constant as constants
+use Rattle.asm_text.specs.declared.statements.Limits.{Limits}
+use Rattle.asm_text.specs.declared.statements.Operation.{Operation}
+use Rattle.asm_text.specs.declared.statements.Statement.{Statement}
+use Rattle.asm_text.specs.declared.statements.Statement.TheVariants.{Class, Implements, Field, Method, Label, Instruction, Catch}
+use Rattle.asm_text.specs.declared.texts.NumberedLine.{NumberedLine}
 use Rattle.class_asm.specs.declared.causes.Cause.{Cause}
 use Rattle.class_asm.specs.declared.causes.Cause.TheVariants as causes
 use Rattle.class_asm.specs.declared.causes.Fault.{Fault}
-use Rattle.class_asm.specs.Lines.{lines_of}
+use Rattle.asm_text.specs.Lines.{lines_of}
 use Rattle.class_asm.specs.Needs.{need_text, need_class, need_head, need_value, need_caught}
-use Rattle.class_asm.specs.Layout.{Setting, numbered, body_of, ends, stands, settings_of, size_of, setting_of}
+use Rattle.class_asm.specs.Layout.{Setting, body_of, ends, stands, settings_of, size_of, setting_of}
+use Rattle.asm_text.specs.Numbered.{numbered}
 use Rattle.class_asm.specs.Encoding.{◌>>=◌, in_range, unsigned_in, pc_of, or_range, need_operand, operation_bytes}
 
 -- ---- what is made so far

@@ -10,12 +10,12 @@ use Rattle.jo_insn.specs.Opcodes.{operands_of}
 use Rattle.jo_insn.specs.Instructions.{u2, s1, s2, s4, padding_at}
 use Rattle.class_pool.specs.declared.entries.PoolEntry.{PoolEntry}
 use Rattle.class_pool.specs.Code.{argument_words}
-use Rattle.class_asm.specs.declared.statements.Number.{Number}
-use Rattle.class_asm.specs.declared.statements.Number.TheVariants.{Of, TooLarge}
-use Rattle.class_asm.specs.declared.statements.Member.{Member}
-use Rattle.class_asm.specs.declared.statements.Case.{Case}
-use Rattle.class_asm.specs.declared.statements.Operation.{Operation}
-use Rattle.class_asm.specs.declared.statements.Operation.TheVariants.{Plain, Local, Iinc, Push, Load, OfClass, OfMember, NewArray, Jump, TableSwitch, LookupSwitch}
+use Rattle.asm_text.specs.declared.statements.Number.{Number}
+use Rattle.asm_text.specs.declared.statements.Number.TheVariants.{Of, TooLarge}
+use Rattle.asm_text.specs.declared.statements.Member.{Member}
+use Rattle.asm_text.specs.declared.statements.Case.{Case}
+use Rattle.asm_text.specs.declared.statements.Operation.{Operation}
+use Rattle.asm_text.specs.declared.statements.Operation.TheVariants.{Plain, Local, Iinc, Push, Load, OfClass, OfMember, NewArray, Jump, TableSwitch, LookupSwitch}
 use Rattle.class_asm.specs.declared.causes.Cause.{Cause}
 use Rattle.class_asm.specs.declared.causes.Cause.TheVariants.{Label, Range}
 use Rattle.class_asm.specs.Needs.{need_class, need_constant, need_member, reference_by}

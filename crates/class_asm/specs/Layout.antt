@@ -6,24 +6,12 @@ use Rattle.jo_insn.specs.declared.opcodes.Operands.{Operands}
 use Rattle.jo_insn.specs.declared.opcodes.Operands.TheVariants.{SignedByte, PoolByte, PoolShortAndTwo, OffsetInt}
 use Rattle.jo_insn.specs.Opcodes.{operands_of}
 use Rattle.jo_insn.specs.Instructions.{offsets_at, pairs_at}
-use Rattle.class_asm.specs.declared.statements.Operation.{Operation}
-use Rattle.class_asm.specs.declared.statements.Operation.TheVariants.{Plain, Local, Iinc, Push, Load, OfClass, OfMember, NewArray, Jump, TableSwitch, LookupSwitch}
-use Rattle.class_asm.specs.declared.statements.Statement.{Statement}
-use Rattle.class_asm.specs.declared.statements.Statement.TheVariants.{Label, Instruction, Catch, End}
-use Rattle.class_asm.specs.declared.texts.NumberedLine.{NumberedLine}
-use Rattle.class_asm.specs.Statements.{statement_of}
-
--- ---- the lines of a text with their numbers
-
-abbrev pub numbered_as : ℕ → Option (Option Statement) → List NumberedLine → List NumberedLine
-numbered_as n None more = record { number = n; said = None } ∷ more
-numbered_as n (Some None) more = more
-numbered_as n (Some (Some statement)) more = record { number = n; said = Some statement } ∷ more
-
--- the lines that say something or are outside the grammar, where the first of these has this number
-abbrev pub numbered : ℕ → List (List ℕ) → List NumberedLine
-numbered n [] = []
-numbered n (line ∷ more) = numbered_as n (statement_of line) (numbered (n + 1) more)
+use Rattle.asm_text.specs.declared.statements.Operation.{Operation}
+use Rattle.asm_text.specs.declared.statements.Operation.TheVariants.{Plain, Local, Iinc, Push, Load, OfClass, OfMember, NewArray, Jump, TableSwitch, LookupSwitch}
+use Rattle.asm_text.specs.declared.statements.Statement.{Statement}
+use Rattle.asm_text.specs.declared.statements.Statement.TheVariants.{Label, Instruction, Catch, End}
+use Rattle.asm_text.specs.declared.texts.NumberedLine.{NumberedLine}
+use Rattle.asm_text.specs.Statements.{statement_of}
 
 -- ---- which lines count
 

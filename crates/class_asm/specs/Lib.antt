@@ -1,8 +1,3 @@
-pub mod Outcomes
-pub mod Lines
-pub mod ItemScan
-pub mod Words
-pub mod Statements
 pub mod Needs
 pub mod Layout
 pub mod Making

@@ -5,12 +5,12 @@ use Rattle.std.specs.Str.{bytes_eq}
 use Rattle.class_pool.specs.declared.entries.PoolEntry.{PoolEntry}
 use Rattle.class_pool.specs.declared.entries.PoolEntry.TheVariants.{Utf8, Integer, Class, Text, FieldRef, MethodRef, InterfaceMethodRef, NameAndType}
 use Rattle.class_pool.specs.Writing.{spelled_entry}
-use Rattle.class_asm.specs.declared.statements.Number.{Number}
-use Rattle.class_asm.specs.declared.statements.Number.TheVariants.{Of, TooLarge}
-use Rattle.class_asm.specs.declared.statements.Constant as constants
-use Rattle.class_asm.specs.declared.statements.Constant.TheVariants as constant
-use Rattle.class_asm.specs.declared.statements.Member.{Member}
-use Rattle.class_asm.specs.Words.{◌>>=◌}
+use Rattle.asm_text.specs.declared.statements.Number.{Number}
+use Rattle.asm_text.specs.declared.statements.Number.TheVariants.{Of, TooLarge}
+use Rattle.asm_text.specs.declared.statements.Constant as constants
+use Rattle.asm_text.specs.declared.statements.Constant.TheVariants as constant
+use Rattle.asm_text.specs.declared.statements.Member.{Member}
+use Rattle.asm_text.specs.Words.{◌>>=◌}
 
 -- entries are equal where a class file spells them alike
 abbrev pub is_same : PoolEntry → PoolEntry → Bool

@@ -8,7 +8,7 @@ ghost use Rattle.class_asm.specs.Encoding.{behind, unsigned_in as unsigned_with,
 use crate::causes::{Cause, Halt};
 use crate::labels::Labels;
 use crate::layout::is_interface_call;
-use crate::statements::{Case, Member, Number, Operation};
+use asm_text::statements::{Case, Member, Number, Operation};
 use class_pool::argument_words;
 use jo_ids::Memory;
 use jo_insn::{Operands, operands_of};

@@ -6,8 +6,8 @@ ghost use Rattle.jo_insn.specs.Opcodes.{operands_of as operands_with};
 ghost use Rattle.class_asm.specs.Layout.{ends as ends_code, body_of as body_in, stands as may_stand, is_catch as catches, is_byte_push as pushes_byte, is_byte_index as has_byte_index, is_interface_call as calls_interface, is_long_jump as jumps_far, pc_behind as pc_with, pc_after as pc_past, size_of as size_with, settings_of, where_stands, next_caught as caught_behind, next_pc as pc_past_line, next_settings};
 
 use crate::labels::{Labels, Place};
-use crate::statements::{Operation, Statement};
-use crate::texts::NumberedLine;
+use asm_text::statements::{Operation, Statement};
+use asm_text::texts::NumberedLine;
 use jo_ids::Memory;
 use jo_insn::{Operands, operands_of};
 use std::alloc::Global;

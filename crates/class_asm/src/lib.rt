@@ -7,15 +7,8 @@ pub mod causes;
 pub mod encoding;
 pub mod labels;
 pub mod layout;
-pub mod lines;
 pub mod pool_maker;
-mod reading;
-pub mod statements;
-pub mod stops;
 #[cfg(test)]
 mod tests;
-pub mod texts;
-pub mod words;
 
 pub use assembly::{AsmFault, assemble};
-pub use reading::read_line;

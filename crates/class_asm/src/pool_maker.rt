@@ -4,7 +4,7 @@ ghost use Rattle.class_pool.specs.Writing.{FitsEntry};
 ghost use Rattle.class_asm.specs.Needs.{need as need_of, need_text as text_of, need_class as class_of, need_number as number_of, need_string as string_of, need_constant as constant_of, need_member as member_of, need_caught as caught_of, need_head as head_of, need_value as value_of, reference_by};
 ghost use Rattle.class_asm.specs.Making.{IsMaker, Makes, HeadMade, ValueMade};
 
-use crate::statements::{Constant, Member, Number};
+use asm_text::statements::{Constant, Member, Number};
 use class_pool::{Pool, PoolEntry, add_entry};
 use indexmap::IndexSet;
 use jo_ids::List;

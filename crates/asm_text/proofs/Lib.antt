@@ -1,0 +1,4 @@
+pub mod LineSteps
+pub mod Respelled
+pub mod Magnitudes
+pub mod Behind

@@ -1,0 +1,6 @@
+pub mod Outcomes
+pub mod Lines
+pub mod ItemScan
+pub mod Words
+pub mod Statements
+pub mod Numbered
