@@ -18,7 +18,7 @@ use Rattle.joana_top.specs.Words.{Command}
 use Rattle.joana_top.specs.Words.Command.{check, dis}
 use Rattle.joana_top.specs.Sinks.{SinkChange, TookAll, TookPart, TookNothing, TookAllOrPart}
 use Rattle.joana_top.specs.Answers.{Puts, IsPut, IsNoted, NotesOfPut}
-use Rattle.joana_top.specs.Commands.{IsTextOf, Shows, AfterCommandReads, IsCommandOutcome}
+use Rattle.joana_top.specs.Commands.{IsTextOf, IsAnswerOf, AfterCommandReads, IsCommandOutcome}
 use Rattle.joana_top.specs.Top.{FitsReads, FitsOutput, FitsNotes, FitsRefusals, FitsVerdict, IsSecureIfAccepted, FitsListing}
 use Rattle.joana_top.proofs.Outcomes.{check_text, check_secure}
 
@@ -29,12 +29,12 @@ pub quiet_answer : (answer : Answer) (notes : SinkChange) → TookNothing notes 
 quiet_answer (Yes text) notes none = none
 quiet_answer (No text) notes none = none
 
-pub puts : (Says : Status → List ℕ → Type 0) (answer : Answer) (status : Status) (out : SinkChange) → Says (status_of answer) (text_of answer) → IsPut answer status out → Puts Says status out
-puts Says (Yes text) status out says put =
-    let P : Status → Type 0 = λ s. Puts Says s out in
+pub puts : (IsText : Status → List ℕ → Type 0) (answer : Answer) (status : Status) (out : SinkChange) → IsText (status_of answer) (text_of answer) → IsPut answer status out → Puts IsText status out
+puts IsText (Yes text) status out says put =
+    let P : Status → Type 0 = λ s. Puts IsText s out in
     elim put [ inl e ↦ subst P (sym e.0) (text.items, says, e.1) | inr e ↦ subst P (sym e.0) (statuses.Done, text.items, says, e.1) ]
-puts Says (No text) status out says put =
-    let P : Status → Type 0 = λ s. Puts Says s out in
+puts IsText (No text) status out says put =
+    let P : Status → Type 0 = λ s. Puts IsText s out in
     elim put [ inl e ↦ subst P (sym e.0) (text.items, says, e.1) | inr e ↦ subst P (sym e.0) (statuses.Refused, text.items, says, e.1) ]
 
 -- ---- no answer
@@ -54,14 +54,14 @@ rises : (before after : ℕ) → Rose before after → before ≤ after
 rises before after rose = elim rose [ inl e ↦ omega (arith, e) | inr e ↦ let same : before ≡ after = e.0 ∙ sym e.1 in omega (arith, same) ]
 
 -- nothing is put where there is no answer
-pub stopped_puts : (Says : Status → List ℕ → Type 0) (stop : Stop) (status : Status) (notes out : SinkChange) → IsNoted stop status notes → TookNothing out → Puts Says status out
-stopped_puts Says (Faulty (refusals.Input fault)) status notes out noted none =
-    refused_ends (λ s. Puts Says s out) (refusals.Input fault) status notes noted (λ _. none) (λ _. none) (λ _. none)
-stopped_puts Says (Faulty (refusals.Limit kind)) status notes out noted none =
-    refused_ends (λ s. Puts Says s out) (refusals.Limit kind) status notes noted (λ _. none) (λ _. none) (λ _. none)
-stopped_puts Says (Unread unread) status notes out noted none =
-    unread_ends (λ s. Puts Says s out) unread.number status notes _ noted (λ _. none) (λ _. none)
-stopped_puts Says Memory status notes out noted none = let P : Status → Type 0 = λ s. Puts Says s out in subst P (sym noted.0) none
+pub stopped_puts : (IsText : Status → List ℕ → Type 0) (stop : Stop) (status : Status) (notes out : SinkChange) → IsNoted stop status notes → TookNothing out → Puts IsText status out
+stopped_puts IsText (Faulty (refusals.Input fault)) status notes out noted none =
+    refused_ends (λ s. Puts IsText s out) (refusals.Input fault) status notes noted (λ _. none) (λ _. none) (λ _. none)
+stopped_puts IsText (Faulty (refusals.Limit kind)) status notes out noted none =
+    refused_ends (λ s. Puts IsText s out) (refusals.Limit kind) status notes noted (λ _. none) (λ _. none) (λ _. none)
+stopped_puts IsText (Unread unread) status notes out noted none =
+    unread_ends (λ s. Puts IsText s out) unread.number status notes _ noted (λ _. none) (λ _. none)
+stopped_puts IsText Memory status notes out noted none = let P : Status → Type 0 = λ s. Puts IsText s out in subst P (sym noted.0) none
 
 pub stopped_reads : (command : Command) (stop : Stop) (status : Status) (notes : SinkChange) (files : FilesChange) → IsNoted stop status notes → AfterCommandReads {T = Answer} command (Err stop) files
     → FitsReads (Some command) status files
@@ -110,30 +110,30 @@ weaker A B (statuses.Input fault) out f p = p
 weaker A B (statuses.Limit kind) out f p = p
 weaker A B statuses.Memory out f p = p
 
-text_shown : (held : Held) (command : Command) (status : Status) (text : List ℕ) → Shows held command status text → IsTextOf command status text
+text_shown : (held : Held) (command : Command) (status : Status) (text : List ℕ) → IsAnswerOf held command status text → IsTextOf command status text
 text_shown held (check names) status text shows = check_text held names status text shows
 text_shown held (dis file) statuses.Done text shows = (shows.2.0, shows.2.3)
 text_shown held (dis file) _ text shows = absurd shows.2
 
-verdict_shown : (held : Held) (command : Command) (status : Status) (out : SinkChange) → Puts (Shows held command) status out → FitsVerdict held (Some command) status out
+verdict_shown : (held : Held) (command : Command) (status : Status) (out : SinkChange) → Puts (IsAnswerOf held command) status out → FitsVerdict held (Some command) status out
 verdict_shown held (check names) status out p = p
 verdict_shown held (dis file) status out p = tt
 
-listing_shown : (held : Held) (command : Command) (status : Status) (out : SinkChange) → Puts (Shows held command) status out → FitsListing held (Some command) status out
+listing_shown : (held : Held) (command : Command) (status : Status) (out : SinkChange) → Puts (IsAnswerOf held command) status out → FitsListing held (Some command) status out
 listing_shown held (check names) status out p = tt
 listing_shown held (dis file) status out p = p
 
-secure_shown : (held : Held) (command : Command) (status : Status) (out : SinkChange) → Puts (Shows held command) status out → IsSecureIfAccepted held (Some command) status
+secure_shown : (held : Held) (command : Command) (status : Status) (out : SinkChange) → Puts (IsAnswerOf held command) status out → IsSecureIfAccepted held (Some command) status
 secure_shown held (check names) statuses.Done out p = check_secure held names p.0 p.1
 secure_shown held (check names) _ out p = tt
 secure_shown held (dis file) status out p = tt
 
 module _ (held : Held) (asked : Option Command) (command : Command) (is : Some command ≡ asked) (status : Status) where
-  module _ (out : SinkChange) (shown : Puts (Shows held command) status out) where
+  module _ (out : SinkChange) (shown : Puts (IsAnswerOf held command) status out) where
     pub fits_output : FitsOutput asked status out
     fits_output =
         let P : Option Command → Type 0 = λ o. FitsOutput o status out in
-        subst P is (weaker (Shows held command) (IsTextOf command) status out (text_shown held command) shown)
+        subst P is (weaker (IsAnswerOf held command) (IsTextOf command) status out (text_shown held command) shown)
 
     pub fits_verdict : FitsVerdict held asked status out
     fits_verdict = let P : Option Command → Type 0 = λ o. FitsVerdict held o status out in subst P is (verdict_shown held command status out shown)

@@ -15,7 +15,7 @@ use Rattle.joana_base.specs.declared.answers.Stop.{Stop}
 use Rattle.joana_base.specs.declared.answers.Stop.TheVariants.{Faulty, Unread, Memory}
 use Rattle.joana_base.proofs.ReadFiles.{readable}
 use Rattle.joana_top.specs.Answers.{IsReadOutcome}
-use Rattle.joana_top.specs.Check.{IsFirstForm, IsInput, IsReportOf, IsReportText, IsCheckText, IsVerdictOn, CheckShows, IsSecureCheck, IsDecision, IsReadClass, IsShown, IsFilesOutcome, IsCheckOutcome}
+use Rattle.joana_top.specs.Check.{IsFirstForm, IsInput, IsReportOf, IsReportText, IsCheckText, IsVerdictOn, IsCheckAnswer, IsSecureCheck, IsDecision, IsReadClass, IsShown, IsFilesOutcome, IsCheckOutcome}
 use Rattle.joana_top.specs.Dis.{IsFileOutcome, IsDisOutcome}
 use Rattle.joana_top.specs.declared.commands.check.Decision.{Decision}
 use Rattle.joana_top.specs.declared.commands.check.Decision.TheVariants as decisions
@@ -23,12 +23,12 @@ use Rattle.joana_top.specs.declared.commands.check.Decision.TheVariants as decis
 -- ---- from files that were read to a command
 
 -- where all files were read nothing more is
-pub quiet_outcome : (Says : Status → List ℕ → Type 0) (Faults : Refusal → Type 0) (IsName : ℕ → List ℕ → Type 0) (result : Result Answer Stop) (files : FilesChange)
-    → files.faults_after ≡ files.faults_before → IsReadOutcome Says Faults result → AfterReads IsName result files
-quiet_outcome Says Faults IsName (Ok answer) files same said = same
-quiet_outcome Says Faults IsName (Err (Faulty refusal)) files same said = same
-quiet_outcome Says Faults IsName (Err (Unread unread)) files same said = absurd said
-quiet_outcome Says Faults IsName (Err Memory) files same said = omega (arith, same)
+pub quiet_outcome : (IsText : Status → List ℕ → Type 0) (Faults : Refusal → Type 0) (IsName : ℕ → List ℕ → Type 0) (result : Result Answer Stop) (files : FilesChange)
+    → files.faults_after ≡ files.faults_before → IsReadOutcome IsText Faults result → AfterReads IsName result files
+quiet_outcome IsText Faults IsName (Ok answer) files same said = same
+quiet_outcome IsText Faults IsName (Err (Faulty refusal)) files same said = same
+quiet_outcome IsText Faults IsName (Err (Unread unread)) files same said = absurd said
+quiet_outcome IsText Faults IsName (Err Memory) files same said = omega (arith, same)
 
 pub check_outcome : (held : Held) (names : ProgramNames) (files : ProgramFiles) (result : Result Answer Stop) → AreProgramFiles held names files → IsFilesOutcome files result → IsCheckOutcome held names result
 check_outcome held names files (Ok answer) are said = (files, are, said)
@@ -114,12 +114,12 @@ module _ (files : ProgramFiles) (ready : AreReadable files) where
 report_text : (program : Program) (labels : Labels) (text : List ℕ) → IsReportOf program labels text → IsReportText text
 report_text program labels text r = (program, labels, r.2.observer, r.2.from, r.2.links, r.2.text_is)
 
-pub check_text : (held : Held) (names : ProgramNames) (status : Status) (text : List ℕ) → CheckShows held names status text → IsCheckText status text
+pub check_text : (held : Held) (names : ProgramNames) (status : Status) (text : List ℕ) → IsCheckAnswer held names status text → IsCheckText status text
 check_text held names statuses.Done text shows = shows.2.0
 check_text held names statuses.Refused text shows = report_text shows.2.0 shows.2.1 text shows.2.3
 check_text held names _ text shows = absurd shows.2
 
-pub check_secure : (held : Held) (names : ProgramNames) (text : List ℕ) → CheckShows held names statuses.Done text → IsSecureCheck held names statuses.Done
+pub check_secure : (held : Held) (names : ProgramNames) (text : List ℕ) → IsCheckAnswer held names statuses.Done text → IsSecureCheck held names statuses.Done
 check_secure held names text shows =
     let verdict = shows.2 in
     (shows.0, shows.1, verdict.1, verdict.2, verdict.3, verdict.4, clean_graph_secure verdict.1 verdict.2 verdict.3.form.plain verdict.4)

@@ -11,26 +11,26 @@ use Rattle.joana_base.specs.declared.answers.Stop.{Stop}
 use Rattle.joana_base.specs.declared.answers.Stop.TheVariants.{Faulty, Unread, Memory}
 use Rattle.joana_top.specs.Sinks.{SinkChange, TookAll, TookPart, TookNothing, TookAllOrPart}
 
--- an answer's status and text show this, and what refuses the files refuses them so
+-- this is said of an answer's status and text, and of what refuses the files
 abbrev pub IsOutcome : (Status → List ℕ → Type 0) → (Refusal → Type 0) → Result Answer Stop → Type 0
-IsOutcome Shows Refuses (Ok answer) = Shows (status_of answer) (text_of answer)
-IsOutcome Shows Refuses (Err (Faulty refusal)) = Refuses refusal
-IsOutcome Shows Refuses (Err stop) = ⊤
+IsOutcome IsAnswer IsRefusal (Ok answer) = IsAnswer (status_of answer) (text_of answer)
+IsOutcome IsAnswer IsRefusal (Err (Faulty refusal)) = IsRefusal refusal
+IsOutcome IsAnswer IsRefusal (Err stop) = ⊤
 
 -- the same once all files were read
 abbrev pub IsReadOutcome : (Status → List ℕ → Type 0) → (Refusal → Type 0) → Result Answer Stop → Type 0
-IsReadOutcome Shows Refuses (Ok answer) = Shows (status_of answer) (text_of answer)
-IsReadOutcome Shows Refuses (Err (Faulty refusal)) = Refuses refusal
-IsReadOutcome Shows Refuses (Err (Unread unread)) = ⊥
-IsReadOutcome Shows Refuses (Err Memory) = ⊤
+IsReadOutcome IsAnswer IsRefusal (Ok answer) = IsAnswer (status_of answer) (text_of answer)
+IsReadOutcome IsAnswer IsRefusal (Err (Faulty refusal)) = IsRefusal refusal
+IsReadOutcome IsAnswer IsRefusal (Err (Unread unread)) = ⊥
+IsReadOutcome IsAnswer IsRefusal (Err Memory) = ⊤
 
 -- What the output was given: a whole text of which this is said, with a status of a text; a part of one where its put failed;
 -- nothing otherwise.
 abbrev pub Puts : (Status → List ℕ → Type 0) → Status → SinkChange → Type 0
-Puts Says Done out = (text : List ℕ) × Says Done text × TookAll out text
-Puts Says Refused out = (text : List ℕ) × Says Refused text × TookAll out text
-Puts Says (Outside Output) out = (status : Status) × (text : List ℕ) × Says status text × TookPart out text
-Puts Says status out = TookNothing out
+Puts IsText Done out = (text : List ℕ) × IsText Done text × TookAll out text
+Puts IsText Refused out = (text : List ℕ) × IsText Refused text × TookAll out text
+Puts IsText (Outside Output) out = (status : Status) × (text : List ℕ) × IsText status text × TookPart out text
+Puts IsText status out = TookNothing out
 
 -- ---- the ends of a run
 

@@ -120,8 +120,8 @@ IsVerdictOn files statuses.Refused text =
 IsVerdictOn files status text = ⊥
 
 -- it says so of files that are those with these names wherever they are told, so of exactly those where all are
-abbrev pub CheckShows : Held → ProgramNames → Status → List ℕ → Type 0
-CheckShows held names status text =
+abbrev pub IsCheckAnswer : Held → ProgramNames → Status → List ℕ → Type 0
+IsCheckAnswer held names status text =
     (files : ProgramFiles) × AreProgramFiles held names files × IsVerdictOn files status text
 
 -- accepted: such files make a program, which is clean, and it is secure
@@ -203,4 +203,4 @@ abbrev pub IsFilesOutcome : ProgramFiles → Result Answer Stop → Type 0
 IsFilesOutcome files result = IsReadOutcome (IsVerdictOn files) (IsRefusalOf files) result
 
 abbrev pub IsCheckOutcome : Held → ProgramNames → Result Answer Stop → Type 0
-IsCheckOutcome held names result = IsOutcome (CheckShows held names) (CheckRefuses held names) result
+IsCheckOutcome held names result = IsOutcome (IsCheckAnswer held names) (CheckRefuses held names) result

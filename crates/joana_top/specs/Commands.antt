@@ -9,8 +9,8 @@ use Rattle.joana_base.specs.declared.answers.Stop.{Stop}
 use Rattle.joana_top.specs.Words.{Command}
 use Rattle.joana_top.specs.Words.Command.{check, dis}
 use Rattle.joana_top.specs.Answers.{IsOutcome}
-use Rattle.joana_top.specs.Check.{IsCheckText, CheckShows, CheckRefuses}
-use Rattle.joana_top.specs.Dis.{IsDisRead, IsDisText, DisShows, DisRefuses}
+use Rattle.joana_top.specs.Check.{IsCheckText, IsCheckAnswer, CheckRefuses}
+use Rattle.joana_top.specs.Dis.{IsDisRead, IsDisText, IsDisAnswer, DisRefuses}
 
 -- the name of the read with that number
 abbrev pub IsReadName : Held → Command → ℕ → List ℕ → Type 0
@@ -23,9 +23,9 @@ IsTextOf (check names) status text = IsCheckText status text
 IsTextOf (dis file) status text = IsDisText status text
 
 -- what a text with a status says of its files
-abbrev pub Shows : Held → Command → Status → List ℕ → Type 0
-Shows held (check names) status text = CheckShows held names status text
-Shows held (dis file) status text = DisShows held file status text
+abbrev pub IsAnswerOf : Held → Command → Status → List ℕ → Type 0
+IsAnswerOf held (check names) status text = IsCheckAnswer held names status text
+IsAnswerOf held (dis file) status text = IsDisAnswer held file status text
 
 -- what refuses its files
 abbrev pub Refuses : Held → Command → Refusal → Type 0
@@ -38,4 +38,4 @@ abbrev pub AfterCommandReads : {T : Type 0} → Command → Result T Stop → Fi
 AfterCommandReads command result files = AfterReads (IsReadName files.held command) result files
 
 abbrev pub IsCommandOutcome : Held → Command → Result Answer Stop → Type 0
-IsCommandOutcome held command result = IsOutcome (Shows held command) (Refuses held command) result
+IsCommandOutcome held command result = IsOutcome (IsAnswerOf held command) (Refuses held command) result

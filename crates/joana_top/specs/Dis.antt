@@ -28,8 +28,8 @@ IsListingOf bytes Done text =
 IsListingOf bytes status text = ⊥
 
 -- it says so of bytes that are those of the file where they are told
-abbrev pub DisShows : Held → List ℕ → Status → List ℕ → Type 0
-DisShows held file status text = (bytes : List ℕ) × IsToldAs held file bytes × IsListingOf bytes status text
+abbrev pub IsDisAnswer : Held → List ℕ → Status → List ℕ → Type 0
+IsDisAnswer held file status text = (bytes : List ℕ) × IsToldAs held file bytes × IsListingOf bytes status text
 
 -- what refuses the file: its size or its first fault
 abbrev pub DisRefuses : Held → List ℕ → Refusal → Type 0
@@ -46,4 +46,4 @@ IsFileOutcome bytes result =
     IsReadOutcome (IsListingOf bytes) (λ refusal. file_class bytes ≡ Err refusal) result
 
 abbrev pub IsDisOutcome : Held → List ℕ → Result Answer Stop → Type 0
-IsDisOutcome held file result = IsOutcome (DisShows held file) (DisRefuses held file) result
+IsDisOutcome held file result = IsOutcome (IsDisAnswer held file) (DisRefuses held file) result

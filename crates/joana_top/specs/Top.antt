@@ -15,8 +15,8 @@ use Rattle.joana_top.specs.Words.Command.{check, dis}
 use Rattle.joana_top.specs.Sinks.{SinkChange, TookAll, TookPart, TookNothing, TookAllOrPart}
 use Rattle.joana_top.specs.Answers.{Puts}
 use Rattle.joana_top.specs.Commands.{IsReadName, IsTextOf, Refuses}
-use Rattle.joana_top.specs.Check.{CheckShows, IsSecureCheck}
-use Rattle.joana_top.specs.Dis.{DisShows}
+use Rattle.joana_top.specs.Check.{IsCheckAnswer, IsSecureCheck}
+use Rattle.joana_top.specs.Dis.{IsDisAnswer}
 
 -- the words are no command, or are one
 abbrev pub FitsWords : Option Command → Status → Type 0
@@ -66,7 +66,7 @@ FitsRefusals held command status notes = ⊤
 
 -- the text of a check says so of its files
 abbrev pub FitsVerdict : Held → Option Command → Status → SinkChange → Type 0
-FitsVerdict held (Some (check names)) status out = Puts (CheckShows held names) status out
+FitsVerdict held (Some (check names)) status out = Puts (IsCheckAnswer held names) status out
 FitsVerdict held command status out = ⊤
 
 -- accepted means secure
@@ -76,5 +76,5 @@ IsSecureIfAccepted held command status = ⊤
 
 -- the text is the listing of its file
 abbrev pub FitsListing : Held → Option Command → Status → SinkChange → Type 0
-FitsListing held (Some (dis file)) status out = Puts (DisShows held file) status out
+FitsListing held (Some (dis file)) status out = Puts (IsDisAnswer held file) status out
 FitsListing held command status out = ⊤

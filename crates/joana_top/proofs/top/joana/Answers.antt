@@ -2,7 +2,7 @@ use Rattle.std.proofs.Common.{refl}
 use Rattle.joana_base.specs.Reading.{files_change}
 use Rattle.joana_top.specs.Words.{command_in, as_command}
 use Rattle.joana_top.specs.Sinks.{sink_change}
-use Rattle.joana_top.specs.Commands.{Shows}
+use Rattle.joana_top.specs.Commands.{IsAnswerOf}
 use Rattle.joana_top.proofs.Endings.{puts, stopped_puts, fits_reads, fits_output, fits_notes, fits_refusals, fits_verdict, is_secure, fits_listing}
 use Rattle.joana_top.proofs.top.joana.Goals as goal
 
@@ -12,7 +12,7 @@ returns-in-Ok-clause-output g c =
     let command = as_command c.in-Some.command in
     let out = sink_change g.S.Sink.given g.S.Sink.faults c.args.out.now c.put_answer.new.out in
     fits_output held (command_in c.args.words.now) command c.in-Some.ensures c.put_answer.result out
-    (puts (Shows held command) c.in-Ok.answer c.put_answer.result out c.in-Ok.ensures.outcome c.put_answer.ensures.output)
+    (puts (IsAnswerOf held command) c.in-Ok.answer c.put_answer.result out c.in-Ok.ensures.outcome c.put_answer.ensures.output)
 
 pub returns-in-Ok-clause-verdict : goal.returns-in-Ok-clause-verdict
 returns-in-Ok-clause-verdict g c =
@@ -20,7 +20,7 @@ returns-in-Ok-clause-verdict g c =
     let command = as_command c.in-Some.command in
     let out = sink_change g.S.Sink.given g.S.Sink.faults c.args.out.now c.put_answer.new.out in
     fits_verdict held (command_in c.args.words.now) command c.in-Some.ensures c.put_answer.result out
-    (puts (Shows held command) c.in-Ok.answer c.put_answer.result out c.in-Ok.ensures.outcome c.put_answer.ensures.output)
+    (puts (IsAnswerOf held command) c.in-Ok.answer c.put_answer.result out c.in-Ok.ensures.outcome c.put_answer.ensures.output)
 
 pub returns-in-Ok-clause-secure : goal.returns-in-Ok-clause-secure
 returns-in-Ok-clause-secure g c =
@@ -28,7 +28,7 @@ returns-in-Ok-clause-secure g c =
     let command = as_command c.in-Some.command in
     let out = sink_change g.S.Sink.given g.S.Sink.faults c.args.out.now c.put_answer.new.out in
     is_secure held (command_in c.args.words.now) command c.in-Some.ensures c.put_answer.result out
-    (puts (Shows held command) c.in-Ok.answer c.put_answer.result out c.in-Ok.ensures.outcome c.put_answer.ensures.output)
+    (puts (IsAnswerOf held command) c.in-Ok.answer c.put_answer.result out c.in-Ok.ensures.outcome c.put_answer.ensures.output)
 
 pub returns-in-Ok-clause-listing : goal.returns-in-Ok-clause-listing
 returns-in-Ok-clause-listing g c =
@@ -36,7 +36,7 @@ returns-in-Ok-clause-listing g c =
     let command = as_command c.in-Some.command in
     let out = sink_change g.S.Sink.given g.S.Sink.faults c.args.out.now c.put_answer.new.out in
     fits_listing held (command_in c.args.words.now) command c.in-Some.ensures c.put_answer.result out
-    (puts (Shows held command) c.in-Ok.answer c.put_answer.result out c.in-Ok.ensures.outcome c.put_answer.ensures.output)
+    (puts (IsAnswerOf held command) c.in-Ok.answer c.put_answer.result out c.in-Ok.ensures.outcome c.put_answer.ensures.output)
 
 pub returns-in-Err-clause-reads : goal.returns-in-Err-clause-reads
 returns-in-Err-clause-reads g c =
@@ -52,7 +52,7 @@ returns-in-Err-clause-output g c =
     let out = sink_change g.S.Sink.given g.S.Sink.faults c.args.out.now c.args.out.now in
     let notes = sink_change g.N.Sink.given g.N.Sink.faults c.args.notes.now c.stopped.new.notes in
     fits_output held (command_in c.args.words.now) command c.in-Some.ensures c.stopped.result out
-    (stopped_puts (Shows held command) c.in-Err.stop c.stopped.result notes out c.stopped.ensures (record { given = refl; faults = refl }))
+    (stopped_puts (IsAnswerOf held command) c.in-Err.stop c.stopped.result notes out c.stopped.ensures (record { given = refl; faults = refl }))
 
 pub returns-in-Err-clause-notes : goal.returns-in-Err-clause-notes
 returns-in-Err-clause-notes g c =
@@ -74,7 +74,7 @@ returns-in-Err-clause-verdict g c =
     let out = sink_change g.S.Sink.given g.S.Sink.faults c.args.out.now c.args.out.now in
     let notes = sink_change g.N.Sink.given g.N.Sink.faults c.args.notes.now c.stopped.new.notes in
     fits_verdict held (command_in c.args.words.now) command c.in-Some.ensures c.stopped.result out
-    (stopped_puts (Shows held command) c.in-Err.stop c.stopped.result notes out c.stopped.ensures (record { given = refl; faults = refl }))
+    (stopped_puts (IsAnswerOf held command) c.in-Err.stop c.stopped.result notes out c.stopped.ensures (record { given = refl; faults = refl }))
 
 pub returns-in-Err-clause-secure : goal.returns-in-Err-clause-secure
 returns-in-Err-clause-secure g c =
@@ -83,7 +83,7 @@ returns-in-Err-clause-secure g c =
     let out = sink_change g.S.Sink.given g.S.Sink.faults c.args.out.now c.args.out.now in
     let notes = sink_change g.N.Sink.given g.N.Sink.faults c.args.notes.now c.stopped.new.notes in
     is_secure held (command_in c.args.words.now) command c.in-Some.ensures c.stopped.result out
-    (stopped_puts (Shows held command) c.in-Err.stop c.stopped.result notes out c.stopped.ensures (record { given = refl; faults = refl }))
+    (stopped_puts (IsAnswerOf held command) c.in-Err.stop c.stopped.result notes out c.stopped.ensures (record { given = refl; faults = refl }))
 
 pub returns-in-Err-clause-listing : goal.returns-in-Err-clause-listing
 returns-in-Err-clause-listing g c =
@@ -92,4 +92,4 @@ returns-in-Err-clause-listing g c =
     let out = sink_change g.S.Sink.given g.S.Sink.faults c.args.out.now c.args.out.now in
     let notes = sink_change g.N.Sink.given g.N.Sink.faults c.args.notes.now c.stopped.new.notes in
     fits_listing held (command_in c.args.words.now) command c.in-Some.ensures c.stopped.result out
-    (stopped_puts (Shows held command) c.in-Err.stop c.stopped.result notes out c.stopped.ensures (record { given = refl; faults = refl }))
+    (stopped_puts (IsAnswerOf held command) c.in-Err.stop c.stopped.result notes out c.stopped.ensures (record { given = refl; faults = refl }))
