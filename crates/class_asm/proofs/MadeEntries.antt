@@ -54,4 +54,3 @@ unfolding need
 need_new items keys pool entry spelling h s e room =
     let test : nat_lt (length pool) 65534 ≡ true = grind (arith, nat_tests) in
     ap (λ p. need_at p entry pool) (sym (place_of items keys pool entry spelling None h s e)) ∙ rw test refl
-

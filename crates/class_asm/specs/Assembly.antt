@@ -152,9 +152,9 @@ member_line made _ rest = Err causes.Line
 -- `end` closes a method
 abbrev pub closed : Made → OpenMethod → Made
 closed made method = record made {
-    methods = made.methods ++ record { flags = method.flags; name = method.name; desc = method.desc; code = Some (record { max_stack = method.stack; max_locals = method.locals; bytes = method.bytes; rows = method.rows }) } ∷ [];
-    opened = None
-  }
+  methods = made.methods ++ record { flags = method.flags; name = method.name; desc = method.desc; code = Some (record { max_stack = method.stack; max_locals = method.locals; bytes = method.bytes; rows = method.rows }) } ∷ [];
+  opened = None;
+}
 
 abbrev pub opened_line : Made → OpenMethod → ℕ → Option Statement → Result Made Cause
 opened_line made method number said = if ends said then Ok (closed made method) else do

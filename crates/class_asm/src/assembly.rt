@@ -328,22 +328,26 @@ fn member_line(
     ensures maker { OnOk result (IsMaker parts.new.pool) }
 {
     match said {
-        Some(Statement::Class {
-            name,
-            superclass,
-            flags,
-        }) if may_come(parts.stage, 0) => {
+        Some(
+            Statement::Class {
+                name,
+                superclass,
+                flags,
+            },
+        ) if may_come(parts.stage, 0) => {
             class_line(alloc, parts, name.as_slice(), superclass.as_slice(), *flags)
         }
         Some(Statement::Implements(name)) if may_come(parts.stage, 1) => {
             interface_line(alloc, parts, name.as_slice())
         }
-        Some(Statement::Field {
-            name,
-            desc,
-            flags,
-            constant,
-        }) if may_come(parts.stage, 2) => field_line(
+        Some(
+            Statement::Field {
+                name,
+                desc,
+                flags,
+                constant,
+            },
+        ) if may_come(parts.stage, 2) => field_line(
             alloc,
             parts,
             name.as_slice(),
@@ -351,12 +355,14 @@ fn member_line(
             *flags,
             constant,
         ),
-        Some(Statement::Method {
-            name,
-            desc,
-            flags,
-            limits,
-        }) if may_come(parts.stage, 3) => method_line(
+        Some(
+            Statement::Method {
+                name,
+                desc,
+                flags,
+                limits,
+            },
+        ) if may_come(parts.stage, 3) => method_line(
             alloc,
             parts,
             name.as_slice(),
@@ -458,6 +464,7 @@ impl Parts {
 }
 
 /// Why a text wasn't assembled. Lines are counted from 1, and one past 2^32 - 1 stands as that number.
+#[derive(Clone, Copy)]
 pub enum AsmFault {
     /// The line is outside the grammar; or the text ends too early, and it is the line behind its last.
     Line(u32),

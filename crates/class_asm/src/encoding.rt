@@ -133,12 +133,7 @@ fn are_cases_set(labels: &Labels, cases: &[Case]) -> bool
 }
 
 /// Adds the distances of these labels.
-fn add_offsets(
-    labels: &Labels,
-    pc: usize,
-    names: &[Name],
-    bytes: &mut Vec<u8>,
-) -> Result<(), Halt>
+fn add_offsets(labels: &Labels, pc: usize, names: &[Name], bytes: &mut Vec<u8>) -> Result<(), Halt>
     requires { pc < 2 ^ 63 }
     ensures { Comes (λ _. bytes.new.items) result (behind bytes.old.items (offsets_bytes labels.now pc names.now)) }
 {
@@ -150,12 +145,7 @@ fn add_offsets(
 }
 
 /// Adds a key and a distance for each of these cases.
-fn add_cases(
-    labels: &Labels,
-    pc: usize,
-    cases: &[Case],
-    bytes: &mut Vec<u8>,
-) -> Result<(), Halt>
+fn add_cases(labels: &Labels, pc: usize, cases: &[Case], bytes: &mut Vec<u8>) -> Result<(), Halt>
     requires { pc < 2 ^ 63 }
     ensures { Comes (λ _. bytes.new.items) result (behind bytes.old.items (cases_bytes labels.now pc cases.now)) }
 {
@@ -425,14 +415,7 @@ pub fn operation_bytes(
             low,
             other,
             labels: names,
-        } => table_bytes(
-            alloc,
-            labels,
-            pc,
-            *low,
-            other.as_slice(),
-            names.as_slice(),
-        ),
+        } => table_bytes(alloc, labels, pc, *low, other.as_slice(), names.as_slice()),
         Operation::LookupSwitch { other, cases } => {
             lookup_bytes(alloc, labels, pc, other.as_slice(), cases.as_slice())
         }

@@ -97,8 +97,12 @@ fn pc_behind(pc: u64, operation: &Operation) -> u64
         Operation::OfMember { op, .. } => pc + if is_interface_call(*op) { 5 } else { 3 },
         Operation::NewArray(_) => pc + 2,
         Operation::Jump { op, .. } => pc + if is_long_jump(*op) { 5 } else { 3 },
-        Operation::TableSwitch { labels, .. } => switch_start(pc) + 12 + 4 * capped(labels.as_slice().len()),
-        Operation::LookupSwitch { cases, .. } => switch_start(pc) + 8 + 8 * capped(cases.as_slice().len()),
+        Operation::TableSwitch { labels, .. } => switch_start(pc)
+            + 12
+            + 4 * capped(labels.as_slice().len()),
+        Operation::LookupSwitch { cases, .. } => switch_start(pc)
+            + 8
+            + 8 * capped(cases.as_slice().len()),
     };
     behind.min(CAP)
 }
@@ -175,7 +179,13 @@ pub fn size_of(body: &[NumberedLine]) -> u64
 }
 
 /// Adds the label that the line sets, where it sets one.
-fn set_label(alloc: Global, labels: &mut Labels, caught: bool, pc: u16, line: &NumberedLine) -> Result<(), Memory>
+fn set_label(
+    alloc: Global,
+    labels: &mut Labels,
+    caught: bool,
+    pc: u16,
+    line: &NumberedLine,
+) -> Result<(), Memory>
     ensures { OnOk result (labels.new ≡ next_settings labels.old caught pc line.now) }
 {
     match standing(caught, line) {

@@ -170,7 +170,11 @@ impl PoolMaker {
     }
 
     /// The index of the constant of a field, behind the name of its attribute.
-    pub fn need_value(&mut self, alloc: Global, value: &Option<Constant>) -> Result<Option<u16>, Lack>
+    pub fn need_value(
+        &mut self,
+        alloc: Global,
+        value: &Option<Constant>,
+    ) -> Result<Option<u16>, Lack>
         requires { IsMaker self.old }
         ensures made { ValueMade result self.new.pool (value_of value.now self.old.pool) }
         ensures maker { OnOk result (IsMaker self.new) }

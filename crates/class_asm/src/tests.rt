@@ -14,13 +14,10 @@ fn is_refused(rt: &impl AllocGlobal, text: &str, code: u8, line: u32) -> bool {
 }
 
 /// The same of a class with one method of this code, which begins in line 3.
-fn is_code_refused(
-    rt: &impl AllocGlobal,
-    code: &str,
-    cause: u8,
-    line: u32,
-) -> Result<bool, Fail> {
-    let text = format!(in rt.alloc(); "class A super B flags 0x0021\nmethod m ()V flags 0x0008 stack 9 locals 9\n{code}\nend\n")?;
+fn is_code_refused(rt: &impl AllocGlobal, code: &str, cause: u8, line: u32) -> Result<bool, Fail> {
+    let text = format!(in rt.alloc();
+        "class A super B flags 0x0021\nmethod m ()V flags 0x0008 stack 9 locals 9\n{code}\nend\n"
+    )?;
     Ok(is_refused(rt, text.as_str(), cause, line))
 }
 
@@ -51,7 +48,14 @@ fn lines_outside_the_grammar(rt: HostRuntime) {
     assert!(rt; is_refused(&rt, "class A super B flags 0x0021\r\n", 1, 1));
     assert!(rt; is_refused(&rt, "class\tA super B flags 0x0021\n", 1, 1));
     assert!(rt; is_refused(&rt, "class A super B flags 0x0021\nmetod", 1, 2));
-    assert!(rt; is_refused(&rt, "class A super B flags 0x0021\nmethod m ()V flags 0x0008 stack 1 locals 1\nreturn", 1, 4));
+    assert!(rt;
+        is_refused(
+            &rt,
+            "class A super B flags 0x0021\nmethod m ()V flags 0x0008 stack 1 locals 1\nreturn",
+            1,
+            4
+        )
+    );
 }
 
 #[test]

@@ -251,7 +251,13 @@ fn first_byte(byte: u8, text: &[u8]) -> Result<usize, Stop>
     }
 }
 
-fn member_of(alloc: Global, kind: Kind, class: &[u8], name: &[u8], desc: &[u8]) -> Result<Member, Stop>
+fn member_of(
+    alloc: Global,
+    kind: Kind,
+    class: &[u8],
+    name: &[u8],
+    desc: &[u8],
+) -> Result<Member, Stop>
     ensures { Gives (λ member. member) result (member_with kind class.now name.now desc.now) }
 {
     let class = copied(alloc, Kind::ClassOrArray, class)?;
@@ -264,14 +270,26 @@ fn field_behind(alloc: Global, class: &[u8], rest: &[u8]) -> Result<Member, Stop
     ensures { Gives (λ member. member) result (field_after class.now rest.now) }
 {
     let colon = first_byte(b':', rest)?;
-    member_of(alloc, Kind::FieldDesc, class, &rest[..colon], behind(rest, colon + 1))
+    member_of(
+        alloc,
+        Kind::FieldDesc,
+        class,
+        &rest[..colon],
+        behind(rest, colon + 1),
+    )
 }
 
 fn method_behind(alloc: Global, class: &[u8], rest: &[u8]) -> Result<Member, Stop>
     ensures { Gives (λ member. member) result (method_after class.now rest.now) }
 {
     let parenthesis = first_byte(b'(', rest)?;
-    member_of(alloc, Kind::MethodDesc, class, &rest[..parenthesis], behind(rest, parenthesis))
+    member_of(
+        alloc,
+        Kind::MethodDesc,
+        class,
+        &rest[..parenthesis],
+        behind(rest, parenthesis),
+    )
 }
 
 /// The field that the text names.

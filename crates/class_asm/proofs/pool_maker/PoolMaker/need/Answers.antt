@@ -28,6 +28,6 @@ returns-clause-made c =
     let grown : c.push.new.self ≡ c.args.self.now.pool ++ c.args.entry ∷ [] = c.in-Ok.ensures.ok in
     let count : c.len-index.result ≡ length c.args.self.now.pool = omega arith in
     let whole : need c.args.entry c.args.self.now.pool ≡ Some (c.push.new.self, c.len-index.result + 1) =
-        made ∙ ap (λ p. Some (p, length c.args.self.now.pool + 1)) (sym grown) ∙ ap (λ n. Some (c.push.new.self, n + 1)) (sym count) in
+    made ∙ ap (λ p. Some (p, length c.args.self.now.pool + 1)) (sym grown) ∙ ap (λ n. Some (c.push.new.self, n + 1)) (sym count) in
     let P : Result ℕ Lack → Type 0 = λ r. Makes r c.push.new.self (need c.args.entry c.args.self.now.pool) in
     elim c.match-insert.branch [ in-Ok-insert w ↦ subst P (sym w.result-is) whole | in-Err-insert w ↦ subst P (sym w.result-is) tt ]
