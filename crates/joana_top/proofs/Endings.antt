@@ -15,7 +15,7 @@ use Rattle.joana_base.specs.declared.answers.Answer.TheVariants.{Yes, No}
 use Rattle.joana_base.specs.declared.answers.Stop.{Stop}
 use Rattle.joana_base.specs.declared.answers.Stop.TheVariants.{Faulty, Unread, Memory}
 use Rattle.joana_top.specs.Words.{Command}
-use Rattle.joana_top.specs.Words.Command.{check, dis}
+use Rattle.joana_top.specs.Words.Command.{check, dis, help}
 use Rattle.joana_top.specs.Sinks.{SinkChange, TookAll, TookPart, TookNothing, TookAllOrPart}
 use Rattle.joana_top.specs.Answers.{Puts, IsPut, IsNoted, NotesOfPut}
 use Rattle.joana_top.specs.Commands.{IsTextOf, IsAnswerOf, AfterCommandReads, IsCommandOutcome}
@@ -114,19 +114,23 @@ text_shown : (held : Held) (command : Command) (status : Status) (text : List �
 text_shown held (check names) status text shows = check_text held names status text shows
 text_shown held (dis file) statuses.Done text shows = (shows.2.0, shows.2.3)
 text_shown held (dis file) _ text shows = absurd shows.2
+text_shown held help status text shows = shows
 
 verdict_shown : (held : Held) (command : Command) (status : Status) (out : SinkChange) → Puts (IsAnswerOf held command) status out → FitsVerdict held (Some command) status out
 verdict_shown held (check names) status out p = p
 verdict_shown held (dis file) status out p = tt
+verdict_shown held help status out p = tt
 
 listing_shown : (held : Held) (command : Command) (status : Status) (out : SinkChange) → Puts (IsAnswerOf held command) status out → FitsListing held (Some command) status out
 listing_shown held (check names) status out p = tt
 listing_shown held (dis file) status out p = p
+listing_shown held help status out p = tt
 
 secure_shown : (held : Held) (command : Command) (status : Status) (out : SinkChange) → Puts (IsAnswerOf held command) status out → IsSecureIfAccepted held (Some command) status
 secure_shown held (check names) statuses.Done out p = check_secure held names p.0 p.1
 secure_shown held (check names) _ out p = tt
 secure_shown held (dis file) status out p = tt
+secure_shown held help status out p = tt
 
 module _ (held : Held) (asked : Option Command) (command : Command) (is : Some command ≡ asked) (status : Status) where
   module _ (out : SinkChange) (shown : Puts (IsAnswerOf held command) status out) where

@@ -3,5 +3,6 @@ pub mod Sinks
 pub mod Answers
 pub mod Check
 pub mod Dis
+pub mod Help
 pub mod Commands
 pub mod Top

@@ -4,7 +4,7 @@ use Rattle.std.specs.Str.{bytes_eq}
 use Rattle.std.specs.declared.alloc.Global.{Global}
 use Rattle.joana_base.specs.Files.{ProgramNames, names_of}
 use Rattle.joana_top.specs.declared.words.Kind.{Kind}
-use Rattle.joana_top.specs.declared.words.Kind.TheVariants.{Check, Dis}
+use Rattle.joana_top.specs.declared.words.Kind.TheVariants.{Check, Dis, Help}
 use Rattle.joana_top.specs.declared.words.Command as lent
 use Rattle.joana_top.specs.declared.words.Command.TheVariants as lents
 
@@ -12,19 +12,25 @@ use Rattle.joana_top.specs.declared.words.Command.TheVariants as lents
 pub data Command : Type 0 where
   check : ProgramNames → Command
   dis : List ℕ → Command
+  help : Command
 
--- the first words, and the commands that they mean
-abbrev pub command_words : List (List ℕ × Kind)
-command_words = (codes "check", Check) ∷ (codes "dis", Dis) ∷ []
+-- the first words, the names of files that stand behind them, and the commands that they mean
+abbrev pub command_words : List (List ℕ × List ℕ × Kind)
+command_words =
+    (codes "check", codes " CLASSES POLICY", Check)
+    ∷ (codes "dis", codes " FILE", Dis)
+    ∷ (codes "help", [], Help)
+    ∷ []
 
-abbrev pub kind_in : List (List ℕ × Kind) → List ℕ → Option Kind
+abbrev pub kind_in : List (List ℕ × List ℕ × Kind) → List ℕ → Option Kind
 kind_in [] word = None
-kind_in (row ∷ rows) word = if bytes_eq row.0 word then Some row.1 else kind_in rows word
+kind_in (row ∷ rows) word = if bytes_eq row.0 word then Some row.2 else kind_in rows word
 
 -- the command with these names of files, where it takes so many
 abbrev pub with_names : Kind → List (List ℕ) → Option Command
 with_names Check (classes ∷ policy ∷ []) = Some (check (record { classes = classes; policy = policy }))
 with_names Dis (file ∷ []) = Some (dis file)
+with_names Help [] = Some help
 with_names kind names = None
 
 abbrev pub with_kind : Option Kind → List (List ℕ) → Option Command
@@ -44,3 +50,4 @@ command_in words = command_of (map string_bytes words)
 abbrev pub as_command : lent.Command → Command
 as_command (lents.Check names) = check (names_of names)
 as_command (lents.Dis file) = dis file.now
+as_command lents.Help = help

@@ -5,6 +5,7 @@ ghost use Rattle.joana_top.specs.Commands.{AfterCommandReads, IsCommandOutcome};
 
 mod check;
 mod dis;
+mod help;
 
 use crate::words::Command;
 use jo_io::Files;
@@ -24,5 +25,6 @@ pub fn run_command<F: Files>(
     match command {
         Command::Check(names) => check::run(alloc, files, names),
         Command::Dis(name) => dis::run(alloc, files, name),
+        Command::Help => help::run(alloc),
     }
 }

@@ -88,8 +88,9 @@ fn put_answer<S: Sink, N: Sink>(out: &mut S, notes: &mut N, answer: &Answer) -> 
 
 /// The program over files and sinks: the first word names the command, the others its files.
 ///
-/// `check CLASSES POLICY` reads POLICY first, then CLASSES, then each path of the class list; `dis FILE` reads FILE. `out` is
-/// given the whole answer in one put, `notes` a line where there is no answer. With `Memory` nothing is put.
+/// `check CLASSES POLICY` reads POLICY first, then CLASSES, then each path of the class list; `dis FILE` reads
+/// FILE; `help` reads nothing. `out` is given the whole answer in one put, `notes` a line where there is no
+/// answer. With `Memory` nothing is put.
 pub fn joana<F: Files, S: Sink, N: Sink>(
     alloc: Global,
     words: &[String],

@@ -1,18 +1,27 @@
 //! The words of a command.
-ghost use Rattle.std.specs.Prelude.{◌≡◌, map, option_map, string_bytes};
+ghost use Rattle.std.specs.Prelude.{◌≡◌, ◌++◌, OnOk, IfOk, map, option_map, string_bytes};
+ghost use Rattle.std.specs.List.{flat_map};
 ghost use Rattle.joana_top.specs.Words.{kind_in, command_words, with_names, command_in, as_command};
+ghost use Rattle.joana_top.specs.Help.{command_line, help_text};
 
 use joana_base::ProgramNames;
+use std::alloc::{AllocError as Memory, Global};
 
 /// The commands, without their files.
 #[derive(Clone, Copy)]
 enum Kind {
     Check,
     Dis,
+    Help,
 }
 
-/// The first words, and the commands that they mean.
-const COMMANDS: [(&str, Kind); 2] = [("check", Kind::Check), ("dis", Kind::Dis)];
+/// The first words, the names of files that stand behind them, and the commands that they mean.
+#[rattlefmt::skip]
+const COMMANDS: [(&str, &str, Kind); 3] = [
+    ("check", " CLASSES POLICY", Kind::Check),
+    ("dis", " FILE", Kind::Dis),
+    ("help", "", Kind::Help),
+];
 
 /// A command with the names of its files.
 #[derive(Clone, Copy)]
@@ -21,15 +30,17 @@ pub enum Command<'a> {
     Check(ProgramNames<'a>),
     /// `dis FILE`.
     Dis(&'a str),
+    /// `help`.
+    Help,
 }
 
 /// What a word means in a table.
-fn kind_in(table: &[(&str, Kind)], word: &str) -> Option<Kind>
-    ensures { result ≡ kind_in (map (λ row. (row.0.now, row.1)) table.now) word.now }
+fn kind_in(table: &[(&str, &str, Kind)], word: &str) -> Option<Kind>
+    ensures { result ≡ kind_in (map (λ row. (row.0.now, row.1.now, row.2)) table.now) word.now }
 {
     for row in table {
         if row.0 == word {
-            return Some(row.1);
+            return Some(row.2);
         }
     }
     None
@@ -57,6 +68,10 @@ fn with_names(kind: Kind, names: &[String]) -> Option<Command<'_>>
             [file] => Some(Command::Dis(file.as_str())),
             _ => None,
         },
+        Kind::Help => match names {
+            [] => Some(Command::Help),
+            _ => None,
+        },
     }
 }
 
@@ -71,4 +86,35 @@ pub fn command_of(words: &[String]) -> Option<Command<'_>>
         Some(kind) => with_names(kind, names),
         None => None,
     }
+}
+
+/// Adds the line of a command with this first word and these names of files.
+fn push_line(out: &mut Vec<u8>, word: &str, names: &str) -> Result<(), Memory>
+    ensures { OnOk result (out.new.items ≡ out.old.items ++ command_line word.now names.now) }
+{
+    out.extend_from_slice(b"joana ")?;
+    out.extend_from_slice(word.as_bytes())?;
+    out.extend_from_slice(names.as_bytes())?;
+    out.push(b'\n')?;
+    Ok(())
+}
+
+/// Adds the line of each command of a table.
+fn push_lines(out: &mut Vec<u8>, table: &[(&str, &str, Kind)]) -> Result<(), Memory>
+    ensures { OnOk result (out.new.items ≡ out.old.items
+        ++ flat_map (λ row. command_line row.0.now row.1.now) table.now) }
+{
+    for row in table {
+        push_line(out, row.0, row.1)?;
+    }
+    Ok(())
+}
+
+/// The lines of all commands.
+pub fn command_lines(alloc: Global) -> Result<Vec<u8>, Memory>
+    ensures { IfOk result (λ text. text.items ≡ help_text) }
+{
+    let mut text = Vec::new(alloc);
+    push_lines(&mut text, &COMMANDS)?;
+    Ok(text)
 }
