@@ -31,7 +31,7 @@ kept_under : (calls next under : List CallSite) → Some calls ≡ Some next →
 kept_under calls next under e = ap (λ xs. Some (xs ++ under)) (same_Some calls next e)
 
 -- an edge that stays within does the same to the calls above
-adv_under : (calls next under : List CallSite) (a b : Node) (kind : EdgeKind) → StaysWithin calls kind → adv calls a kind b ≡ Some next → adv (calls ++ under) a kind b ≡ Some (next ++ under)
+pub adv_under : (calls next under : List CallSite) (a b : Node) (kind : EdgeKind) → StaysWithin calls kind → adv calls a kind b ≡ Some next → adv (calls ++ under) a kind b ≡ Some (next ++ under)
 adv_under calls next under a b Data stays e = kept_under calls next under e
 adv_under calls next under a b Control stays e = kept_under calls next under e
 adv_under calls next under a b Out stays e = kept_under calls next under e

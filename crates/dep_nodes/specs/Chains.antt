@@ -45,6 +45,11 @@ adv calls from Fork to = Some []
 
 -- ---- matched paths
 
+-- a step of a chain, to its end
+pub record Link : Type 0 where
+  pub word : Word
+  pub to : Node
+
 -- a word of edges that stay within a call and what it calls: none that forgets open calls, no return that finds none open
 abbrev pub StaysWithin : List CallSite → EdgeKind → Type 0
 StaysWithin calls Heap = ⊥
@@ -56,6 +61,11 @@ StaysWithin calls _ = Unit {0}
 pub data Matched (E : Node → EdgeKind → Node → Type 0) : List CallSite → Node → Node → Type 0 where
   arrived : (n : Node) → Matched E [] n n
   onwards : (calls next : List CallSite) (kind : EdgeKind) (a b c : Node) → E a kind b → StaysWithin calls kind → adv calls a kind b ≡ Some next → Matched E next b c → Matched E calls a c
+
+-- the links of a matched path, or of the rest of one
+abbrev pub path_links : (E : Node → EdgeKind → Node → Type 0) (calls : List CallSite) (a b : Node) → Matched E calls a b → List Link
+path_links E calls a b (arrived n) = []
+path_links E calls a b (onwards before next kind x y z along stays opens path) = record { word = Edge kind; to = y } ∷ path_links E next y z path
 
 -- a matched path, which leaves no call open
 abbrev pub IsMatched : (Node → EdgeKind → Node → Type 0) → Node → Node → Type 0
@@ -87,15 +97,18 @@ abbrev pub StepsOn : (Node → EdgeKind → Node → Type 0) → List CallSite �
 StepsOn E calls from (Edge kind) to next = E from kind to × (adv calls from kind to ≡ Some next)
 StepsOn E calls from Pass to next = IsPass E from to × (next ≡ calls)
 
--- a step of a chain, to its end
-pub record Link : Type 0 where
-  pub word : Word
-  pub to : Node
-
 -- the steps lead on from a node where these calls are open
 abbrev pub IsChainFrom : (Node → EdgeKind → Node → Type 0) → List CallSite → Node → List Link → Type 0
 IsChainFrom E calls from [] = Unit {0}
 IsChainFrom E calls from (link ∷ links) = (next : List CallSite) × StepsOn E calls from link.word link.to next × IsChainFrom E next link.to links
+
+-- the steps lead on from a node where the first calls are open, and leave the second open
+abbrev pub LeavesOpen : (Node → EdgeKind → Node → Type 0) → List CallSite → Node → List Link → List CallSite → Type 0
+LeavesOpen E calls from [] left = left ≡ calls
+LeavesOpen E calls from (link ∷ links) left = (next : List CallSite) × StepsOn E calls from link.word link.to next × LeavesOpen E next link.to links left
+
+abbrev pub pass_to : Node → Link
+pass_to to = record { word = Pass; to = to }
 
 -- a valid chain from a node
 abbrev pub IsValidChain : (Node → EdgeKind → Node → Type 0) → Node → List Link → Type 0
