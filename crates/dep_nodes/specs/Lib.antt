@@ -1,3 +1,4 @@
 pub mod Nodes
 pub mod Graphs
 pub mod Chains
+pub mod GrowingGraphs

@@ -2,7 +2,7 @@
 use Rattle.std.specs.Prelude.{ℕ, zero, suc, List, [], ◌∷◌, Option, Some, None, option_map}
 use Rattle.dep_nodes.specs.declared.kinds.NodeKind.{NodeKind}
 use Rattle.dep_nodes.specs.declared.kinds.NodeKind.TheVariants.{Entry, Exit, Instr, Call, RetVal, RetKind, Throw, Catch, Poll, XPoll, Arg, Param, Kind, Value, Thrown}
-use Rattle.dep_nodes.specs.declared.graphs.SiteList.{SiteList}
+use Rattle.jo_ids.specs.declared.SiteList.{SiteList}
 use Rattle.dep_nodes.specs.declared.graphs.NodeName.{NodeName}
 
 -- a method in a context, which is a list of sites

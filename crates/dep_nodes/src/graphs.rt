@@ -1,15 +1,7 @@
 //! The graph itself: nodes and edges.
 
 use crate::kinds::{EdgeKind, NodeKind};
-use jo_ids::{List, MethodId, NodeId, SiteId};
-
-/// A context: at most two sites, the first `len` of the two.
-#[derive(Clone, Copy)]
-pub struct SiteList {
-    pub len: u8,
-    pub first: SiteId,
-    pub second: SiteId,
-}
+use jo_ids::{List, MethodId, NodeId, SiteList};
 
 /// A node: the method and context of its instance, its kind, and for a `Call`, an `Arg` or a `RetVal` the method that its
 /// instruction resolves to.

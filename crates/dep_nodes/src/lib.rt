@@ -1,11 +1,16 @@
 //! The dependence graph as data: nodes, edges, and chains of steps.
 #![tactic(auto)]
 
+mod accesses;
 mod chains;
+mod dependence_graph;
 mod graphs;
 mod kinds;
 pub mod laws;
 
+pub use accesses::{Access, Cell, ObjName};
 pub use chains::{Chain, Step, Word};
-pub use graphs::{Edge, Graph, NodeName, SiteList};
+pub use dependence_graph::{DependenceGraph, GraphFault, GraphNode};
+pub use graphs::{Edge, Graph, NodeName};
+pub use jo_ids::SiteList;
 pub use kinds::{EdgeKind, NodeKind};
