@@ -1,4 +1,5 @@
-pub mod Nodes
-pub mod Graphs
+pub mod ChainExamples
 pub mod Chains
+pub mod Graphs
 pub mod GrowingGraphs
+pub mod Nodes

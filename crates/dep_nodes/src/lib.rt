@@ -14,3 +14,6 @@ pub use dependence_graph::{DependenceGraph, GraphFault, GraphNode};
 pub use graphs::{Edge, Graph, NodeName};
 pub use jo_ids::SiteList;
 pub use kinds::{EdgeKind, NodeKind};
+
+#[cfg(test)]
+mod tests;

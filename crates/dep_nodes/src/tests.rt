@@ -1,0 +1,83 @@
+//! Small graphs, and chains by hand.
+ghost use Rattle.std.specs.Prelude.{◌≡◌, length, IfOk};
+ghost use Rattle.dep_nodes.specs.Chains.{IsValidChain};
+ghost use Rattle.dep_nodes.specs.ChainExamples.{AnyEdge, call_node, in_and_back_to};
+
+use crate::{Access, Cell, DependenceGraph, EdgeKind, GraphFault, NodeKind, NodeName, SiteList};
+use jo_ids::{Id, MethodId, NodeId};
+use std::alloc::Global;
+use std::test::Fail;
+
+/// A chain into a method and back to its call is valid; one back to another call isn't.
+fn chains_by_hand()
+    ensures back { IsValidChain AnyEdge (call_node 3) (in_and_back_to 3) }
+    ensures elsewhere { IsValidChain AnyEdge (call_node 3) (in_and_back_to 7) → ⊥ }
+{}
+
+fn name(kind: NodeKind) -> NodeName {
+    NodeName {
+        method: Id::of(4),
+        sites: SiteList {
+            len: 0,
+            first: Id::of(0),
+            second: Id::of(0),
+        },
+        kind,
+        resolved: None,
+    }
+}
+
+/// The graph of an entry and an exit.
+fn two_nodes(alloc: Global) -> Result<DependenceGraph, GraphFault>
+    ensures { IfOk result (λ graph. length graph ≡ 2) }
+{
+    let mut graph = DependenceGraph::new(alloc);
+    graph.add_node(name(NodeKind::Entry))?;
+    graph.add_node(name(NodeKind::Exit))?;
+    Ok(graph)
+}
+
+/// How many edges end at the exit, flow edges begin at it, and accesses it has.
+fn counts(graph: &DependenceGraph) -> (usize, usize, usize)
+    requires { length graph.now ≡ 2 }
+{
+    let exit: NodeId = Id::of(1);
+    (
+        graph.edges_into(exit).len(),
+        graph.flows_from(exit).len(),
+        graph.accesses(exit).len(),
+    )
+}
+
+/// Two edges, a flow edge and two accesses, each added twice.
+fn filled(alloc: Global) -> Result<DependenceGraph, GraphFault>
+    ensures { IfOk result (λ graph. length graph ≡ 2) }
+{
+    let mut graph = two_nodes(alloc)?;
+    let entry: NodeId = Id::of(0);
+    let exit: NodeId = Id::of(1);
+    let method: MethodId = Id::of(4);
+    graph.add_edge(entry, EdgeKind::Data, exit)?;
+    graph.add_edge(entry, EdgeKind::Data, exit)?;
+    graph.add_edge(entry, EdgeKind::Control, exit)?;
+    graph.add_access(exit, Cell::Cursor(method), true)?;
+    graph.add_access(exit, Cell::Cursor(method), true)?;
+    graph.add_access(exit, Cell::Cursor(method), false)?;
+    Ok(graph)
+}
+
+#[test]
+fn what_is_added_twice_is_there_once(rt: HostRuntime) -> Result<(), Fail> {
+    chains_by_hand();
+    let Ok(mut graph) = filled(rt.alloc()) else {
+        return Err(Fail::from("no room"));
+    };
+    let entry: NodeId = Id::of(0);
+    let exit: NodeId = Id::of(1);
+    graph.add_flow(exit, entry)?;
+    graph.add_flow(exit, entry)?;
+    assert_eq!(rt; counts(&graph), (2, 1, 2));
+    assert_eq!(rt; graph.edges_into(entry).len(), 0);
+    assert!(rt; graph.node(exit).kind == NodeKind::Exit);
+    Ok(())
+}
