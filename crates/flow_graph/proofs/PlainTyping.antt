@@ -240,13 +240,13 @@ native_call program labels m pc s pops pushes label natives callee is shape =
       gives = ap (option_map (λ (x : ℕ × ℕ). x.1)) effect;
     }
 
-source_label : (o : Option Label) → is_source o ≡ true → (level : ℕ) × (o ≡ Some (Source level))
+pub source_label : (o : Option Label) → is_source o ≡ true → (level : ℕ) × (o ≡ Some (Source level))
 source_label None e = absurd (false≢true e)
 source_label (Some (Source level)) e = (level, refl)
 source_label (Some (Sink level)) e = absurd (false≢true e)
 source_label (Some (Release from to)) e = absurd (false≢true e)
 
-sink_label : (o : Option Label) → is_sink o ≡ true → (level : ℕ) × (o ≡ Some (Sink level))
+pub sink_label : (o : Option Label) → is_sink o ≡ true → (level : ℕ) × (o ≡ Some (Sink level))
 sink_label None e = absurd (false≢true e)
 sink_label (Some (Source level)) e = absurd (false≢true e)
 sink_label (Some (Sink level)) e = (level, refl)

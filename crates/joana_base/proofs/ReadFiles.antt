@@ -16,7 +16,7 @@ use Rattle.joana_base.specs.declared.reading.ProgramFiles as memory
 use Rattle.joana_base.specs.declared.answers.Stop.{Stop}
 use Rattle.joana_base.specs.declared.answers.Stop.TheVariants.{Faulty, Unread, Memory}
 use Rattle.joana_base.specs.declared.status.InputFault.TheVariants.{NotBuilt}
-use Rattle.joana_base.specs.declared.status.LimitKind.TheVariants.{M2}
+use Rattle.jo_ids.specs.declared.LimitKind.TheVariants.{M2}
 use Rattle.joana_base.specs.declared.status.Refusal.{Refusal}
 use Rattle.joana_base.specs.declared.status.Refusal.TheVariants.{Input, Limit}
 

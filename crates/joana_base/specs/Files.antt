@@ -8,7 +8,7 @@ use Rattle.class_pool.specs.declared.faults.ClassFault.{ClassFault}
 use Rattle.class_pool.specs.ClassOrder.{class_of}
 use Rattle.joana_base.specs.declared.reading.ProgramNames as lent
 use Rattle.joana_base.specs.declared.status.InputFault.TheVariants.{NotBuilt, Class}
-use Rattle.joana_base.specs.declared.status.LimitKind.TheVariants.{M2}
+use Rattle.jo_ids.specs.declared.LimitKind.TheVariants.{M2}
 use Rattle.joana_base.specs.declared.status.Refusal.{Refusal}
 use Rattle.joana_base.specs.declared.status.Refusal.TheVariants.{Input, Limit}
 

@@ -8,8 +8,8 @@ use Rattle.class_pool.specs.declared.faults.ClassCode.TheVariants.{Truncated, Ma
 use Rattle.class_pool.specs.declared.faults.ClassFault.{ClassFault}
 use Rattle.joana_base.specs.declared.status.InputFault.{InputFault}
 use Rattle.joana_base.specs.declared.status.InputFault.TheVariants.{NotBuilt, Class}
-use Rattle.joana_base.specs.declared.status.LimitKind.{LimitKind}
-use Rattle.joana_base.specs.declared.status.LimitKind.TheVariants.{M1, M2, M3, M4, M5, M6, M7}
+use Rattle.jo_ids.specs.declared.LimitKind.{LimitKind}
+use Rattle.jo_ids.specs.declared.LimitKind.TheVariants.{M1, M2, M3, M4, M5, M6, M7}
 use Rattle.joana_base.specs.declared.status.Refusal.{Refusal}
 use Rattle.joana_base.specs.declared.status.Refusal.TheVariants.{Input, Limit}
 

@@ -1,5 +1,6 @@
 //! What a run of the program answers.
 use class_pool::ClassFault;
+pub use jo_ids::LimitKind;
 
 /// How a run ended.
 #[derive(Clone, Copy, PartialEq, Eq, Debug)]
@@ -27,18 +28,6 @@ pub enum InputFault {
     NotBuilt,
     /// The first fault of the class file with that number, counted from 0 in the order of the class list.
     Class(u32, ClassFault),
-}
-
-/// The quantity that is greater than its limit.
-#[derive(Clone, Copy, PartialEq, Eq, Debug)]
-pub enum LimitKind {
-    M1,
-    M2,
-    M3,
-    M4,
-    M5,
-    M6,
-    M7,
 }
 
 /// What failed outside of the program.

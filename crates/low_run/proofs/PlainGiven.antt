@@ -39,24 +39,12 @@ use Rattle.flow_graph.proofs.PlainCalls.{result_place}
 use Rattle.flow_graph.proofs.PlainLine.{flow_on}
 use Rattle.flow_graph.proofs.PlainReaching.{root, no_write_at_call}
 use Rattle.flow_graph.proofs.PlainSteps.{instr_writes}
-use Rattle.flow_graph.proofs.PlainTyping.{goes_on_from, source_call, sink_call, plain_callee}
+use Rattle.flow_graph.proofs.PlainTyping.{goes_on_from, source_label, sink_label, source_call, sink_call, plain_callee}
 use Rattle.low_run.specs.Security.{source_level}
 use Rattle.low_run.specs.ByEdges.{CleanByEdges, result, call}
 use Rattle.low_run.proofs.PlainFrames.{written_at, value_from, writes_there, StackHolds, empty, push, LocalsHold, pushed_stack, locals_beside, popped_none, frame_at, executed_in, operation_goes}
 use Rattle.low_run.proofs.PlainLaws.{Store, with_int, Doing, assigns, takes, shows, returns, read_by, written_by, behind, Keeps, here, further, Feeds, Leads, ends, goes, Moves, PlainLaws}
 use Rattle.low_run.proofs.Relevance.{IsRelevant, at_end, within, hidden_irrelevant, reaches_else}
-
-source_label : (o : Option Label) → is_source o ≡ true → (level : ℕ) × (o ≡ Some (Source level))
-source_label None e = absurd (false≢true e)
-source_label (Some (Source level)) e = (level, refl)
-source_label (Some (Sink level)) e = absurd (false≢true e)
-source_label (Some (Release from to)) e = absurd (false≢true e)
-
-sink_label : (o : Option Label) → is_sink o ≡ true → (level : ℕ) × (o ≡ Some (Sink level))
-sink_label None e = absurd (false≢true e)
-sink_label (Some (Source level)) e = absurd (false≢true e)
-sink_label (Some (Sink level)) e = (level, refl)
-sink_label (Some (Release from to)) e = absurd (false≢true e)
 
 label_of_callee : (program : Program) (labels : Labels) (m pc s : ℕ) → callee_at program m pc ≡ Some s → label_at program labels m pc ≡ label_of labels s
 label_of_callee program labels m pc s e = rw e refl

@@ -52,12 +52,12 @@ pub record Clean (graph : Graph) (labels : Labels) (observer : ℕ) : Type 0 whe
 abbrev pub CleanForAll : Graph → Labels → Type 0
 CleanForAll graph labels = (observer : ℕ) → Contains labels.observers observer → Clean graph labels observer
 
--- the graph is clean for the observers before this one, and has an illegal chain for it, which the text reports
+-- the observers before this one have no illegal chain in the graph, and it has one, which the text reports
 pub record Reports (program : Program) (labels : Labels) (graph : Graph) (text : List ℕ) : Type 0 where
   pub place : ℕ
   pub observer : ℕ
   pub observer_at : slice_get labels.observers place ≡ Some observer
-  pub earlier : (k l : ℕ) → k < place → slice_get labels.observers k ≡ Some l → Clean graph labels l
+  pub earlier : (k l : ℕ) → k < place → slice_get labels.observers k ≡ Some l → (from : Node) (links : List Link) → IllegalChain graph labels l from links → ⊥
   pub from : Node
   pub links : List Link
   pub illegal : IllegalChain graph labels observer from links
