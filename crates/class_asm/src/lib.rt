@@ -6,6 +6,7 @@ pub mod assembly;
 pub mod causes;
 pub mod encoding;
 pub mod labels;
+pub mod laws;
 pub mod layout;
 pub mod pool_maker;
 #[cfg(test)]

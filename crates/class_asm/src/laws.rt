@@ -1,0 +1,18 @@
+//! Laws of assembly.
+ghost use Rattle.std.specs.Prelude.{◌≡◌, ◌+◌, ℕ, List, length, Ok};
+ghost use Rattle.asm_text.specs.declared.statements.Operation.{Operation};
+ghost use Rattle.class_pool.specs.declared.classes.ClassFile.{ClassFile};
+ghost use Rattle.class_pool.specs.Fitting.{FitsClass};
+ghost use Rattle.class_asm.specs.Layout.{Setting, pc_behind};
+ghost use Rattle.class_asm.specs.Encoding.{operation_bytes};
+ghost use Rattle.class_asm.specs.Assembly.{assembled};
+
+/// The bytes of an operation are as many as its size says.
+pub fn operations_have_their_sizes()
+    ensures { (settings : List Setting) (pc entry : ℕ) (operation : Operation) (bytes : List ℕ) → operation_bytes settings pc entry operation ≡ Ok bytes → pc + length bytes ≡ pc_behind pc operation }
+{}
+
+/// Each class that a text says can be written.
+pub fn assembled_fits()
+    ensures { (text : List ℕ) (class : ClassFile) → assembled text ≡ Ok class → FitsClass class }
+{}
