@@ -103,7 +103,7 @@ second false b is = absurd (cc)
 unsigned_small : (number : Number) → IfOk (unsigned_in 65536 number) (λ n. n < 2 ^ 16)
 unsigned_small (Of z) =
     ranged (λ (n : ℕ). n < 2 ^ 16) (not (int_lt z (pos 0)) && nat_lt (unsigned_abs z) 65536) (unsigned_abs z)
-      (λ test. below (unsigned_abs z) 65536 (second (not (int_lt z (pos 0))) (nat_lt (unsigned_abs z) 65536) test))
+    (λ test. below (unsigned_abs z) 65536 (second (not (int_lt z (pos 0))) (nat_lt (unsigned_abs z) 65536) test))
 unsigned_small TooLarge = tt
 
 -- ---- a line of the class
@@ -116,28 +116,30 @@ module _ (made : Made) (rest : List NumberedLine) (parts : Parts made.pool made)
   class_line_fits name above flags small =
       and_then _ _ (or_range (need_class name made.pool)) _ (or_range_so (Added made.pool) (need_class name made.pool) (class_added name made.pool parts.pool)) (λ this p.
       and_then _ _ (or_range (need_class above this.0)) _ (or_range_so (Added this.0) (need_class above this.0) (class_added above this.0 p.pool)) (λ upper q.
-      let more = grown made (along p.keeps q.keeps) q.pool parts in
-      (record {
-        pool = q.pool;
-        flags = small;
-        this_class = p.index;
-        super_class = q.index;
-        few_interfaces = more.few_interfaces;
-        interfaces = more.interfaces;
-        few_fields = more.few_fields;
-        fields = more.fields;
-        few_methods = more.few_methods;
-        methods = more.methods;
-      }, idle upper.0 (length made.methods))))
+      let more = grown made (along p.keeps q.keeps) q.pool parts in (
+        record {
+          pool = q.pool;
+          flags = small;
+          this_class = p.index;
+          super_class = q.index;
+          few_interfaces = more.few_interfaces;
+          interfaces = more.interfaces;
+          few_fields = more.few_fields;
+          fields = more.fields;
+          few_methods = more.few_methods;
+          methods = more.methods;
+        },
+        idle upper.0 (length made.methods),
+      )))
 
   interface_fits : (name : List ℕ) → IfOk (interface_line made name) (FitsMade rest)
   interface_fits name =
       and_then _ _ (or_range (need_class name made.pool)) _ (or_range_so (Added made.pool) (need_class name made.pool) (class_added name made.pool parts.pool)) (λ needed p.
       let more = grown made p.keeps p.pool parts in
       and_then (λ interfaces. (length interfaces < 2 ^ 16) × AllByRecursion (λ (index : ℕ). index < 2 ^ 16) interfaces) _ (one_more made.interfaces needed.1) _
-        (one_more_so _ made.interfaces needed.1 (λ few. (longer made.interfaces needed.1 few, all_more (λ (index : ℕ). index < 2 ^ 16) made.interfaces needed.1 parts.interfaces p.index)))
-        (λ interfaces q.
-        (record {
+      (one_more_so _ made.interfaces needed.1 (λ few. (longer made.interfaces needed.1 few, all_more (λ (index : ℕ). index < 2 ^ 16) made.interfaces needed.1 parts.interfaces p.index)))
+      (λ interfaces q. (
+        record {
           pool = p.pool;
           flags = more.flags;
           this_class = more.this_class;
@@ -148,7 +150,9 @@ module _ (made : Made) (rest : List NumberedLine) (parts : Parts made.pool made)
           fields = more.fields;
           few_methods = more.few_methods;
           methods = more.methods;
-        }, idle needed.0 (length made.methods))))
+        },
+        idle needed.0 (length made.methods),
+      )))
 
   field_fits : (name desc : List ℕ) (flags : ℕ) (constant : Option constants.Constant) → flags < 2 ^ 16 → FitsOptional constant → IfOk (field_line made name desc flags constant) (FitsMade rest)
   field_fits name desc flags constant small said =
@@ -158,9 +162,9 @@ module _ (made : Made) (rest : List NumberedLine) (parts : Parts made.pool made)
       let field : FieldInfo = record { flags = flags; name = head.1; desc = head.2; constant = value.1 } in
       let fits : FitsField value.0 field = record { flags = small; name = p.name; desc = p.desc; constant = q.value } in
       and_then (λ fields. (length fields < 2 ^ 16) × AllByRecursion (FitsField value.0) fields) _ (one_more made.fields field) _
-        (one_more_so _ made.fields field (λ few. (longer made.fields field few, all_more (FitsField value.0) made.fields field more.fields fits)))
-        (λ fields r.
-        (record {
+      (one_more_so _ made.fields field (λ few. (longer made.fields field few, all_more (FitsField value.0) made.fields field more.fields fits)))
+      (λ fields r. (
+        record {
           pool = q.pool;
           flags = more.flags;
           this_class = more.this_class;
@@ -171,7 +175,9 @@ module _ (made : Made) (rest : List NumberedLine) (parts : Parts made.pool made)
           fields = r.1;
           few_methods = more.few_methods;
           methods = more.methods;
-        }, idle value.0 (length made.methods)))))
+        },
+        idle value.0 (length made.methods),
+      ))))
 
   open_fits : (name desc : List ℕ) (flags : ℕ) (limits : Limits) → flags < 2 ^ 16 → IfOk (open_line made name desc flags limits (body_of rest)) (FitsMade rest)
   open_fits name desc flags limits small =
@@ -180,33 +186,39 @@ module _ (made : Made) (rest : List NumberedLine) (parts : Parts made.pool made)
       and_then _ _ (unsigned_in 65536 limits.stack) _ (unsigned_small limits.stack) (λ stack a.
       and_then _ _ (unsigned_in 65536 limits.locals) _ (unsigned_small limits.locals) (λ locals b.
       and_then (λ (size : ℕ). size_of (body_of rest) < 2 ^ 16) _ (in_range (nat_lt (size_of (body_of rest)) 65536) (size_of (body_of rest))) _
-        (ranged _ (nat_lt (size_of (body_of rest)) 65536) (size_of (body_of rest)) (λ test. below (size_of (body_of rest)) 65536 test)) (λ size short.
+      (ranged _ (nat_lt (size_of (body_of rest)) 65536) (size_of (body_of rest)) (λ test. below (size_of (body_of rest)) 65536 test)) (λ size short.
       and_then (λ (count : ℕ). length made.methods < 65535) _ (in_range (nat_lt (length made.methods) 65535) (length made.methods)) _
-        (ranged _ (nat_lt (length made.methods) 65535) (length made.methods) (λ test. below (length made.methods) 65535 test)) (λ count few.
+      (ranged _ (nat_lt (length made.methods) 65535) (length made.methods) (λ test. below (length made.methods) 65535 test)) (λ count few.
       let none_yet : 0 < 2 ^ 16 = omega arith in
-      let more = grown made (along p.keeps q.0.keeps) q.0.pool parts in
-      (record {
-        pool = q.0.pool;
-        flags = more.flags;
-        this_class = more.this_class;
-        super_class = more.super_class;
-        few_interfaces = more.few_interfaces;
-        interfaces = more.interfaces;
-        few_fields = more.few_fields;
-        fields = more.fields;
-        few_methods = more.few_methods;
-        methods = more.methods;
-      }, (record {
-        flags = small;
-        name = p.name;
-        desc = p.desc;
-        stack = a;
-        locals = b;
-        settings = settings_small [] false 0 (body_of rest) tt short;
-        few_rows = none_yet;
-        rows = tt;
-        text = (code.1, q.1);
-      }, short, few))))))))
+      let more = grown made (along p.keeps q.0.keeps) q.0.pool parts in (
+        record {
+          pool = q.0.pool;
+          flags = more.flags;
+          this_class = more.this_class;
+          super_class = more.super_class;
+          few_interfaces = more.few_interfaces;
+          interfaces = more.interfaces;
+          few_fields = more.few_fields;
+          fields = more.fields;
+          few_methods = more.few_methods;
+          methods = more.methods;
+        },
+        (
+          record {
+            flags = small;
+            name = p.name;
+            desc = p.desc;
+            stack = a;
+            locals = b;
+            settings = settings_small [] false 0 (body_of rest) tt short;
+            few_rows = none_yet;
+            rows = tt;
+            text = (code.1, q.1);
+          },
+          short,
+          few,
+        ),
+      )))))))
 
   method_fits : (name desc : List ℕ) (flags : ℕ) (limits : Option Limits) → flags < 2 ^ 16 → IfOk (method_line made name desc flags limits rest) (FitsMade rest)
   method_fits name desc flags (Some limits) small = open_fits name desc flags limits small
@@ -216,9 +228,9 @@ module _ (made : Made) (rest : List NumberedLine) (parts : Parts made.pool made)
       let method : MethodInfo = record { flags = flags; name = head.1; desc = head.2; code = None } in
       let fits : FitsMethod head.0 method = record { flags = small; name = p.name; desc = p.desc; code = tt } in
       and_then (λ methods. (length methods < 2 ^ 16) × AllByRecursion (FitsMethod head.0) methods) _ (one_more made.methods method) _
-        (one_more_so _ made.methods method (λ few. (longer made.methods method few, all_more (FitsMethod head.0) made.methods method more.methods fits)))
-        (λ methods r.
-        (record {
+      (one_more_so _ made.methods method (λ few. (longer made.methods method few, all_more (FitsMethod head.0) made.methods method more.methods fits)))
+      (λ methods r. (
+        record {
           pool = p.pool;
           flags = more.flags;
           this_class = more.this_class;
@@ -229,7 +241,9 @@ module _ (made : Made) (rest : List NumberedLine) (parts : Parts made.pool made)
           fields = more.fields;
           few_methods = r.0;
           methods = r.1;
-        }, idle head.0 (length methods))))
+        },
+        idle head.0 (length methods),
+      )))
 
   member_fits : (said : Option Statement) → FitsSaid said → IfOk (member_line made said rest) (FitsMade rest)
   unfolding member_line
@@ -252,19 +266,21 @@ module _ (made : Made) (method : OpenMethod) (line : NumberedLine) (rest : List 
         name = open_so.name;
         desc = open_so.desc;
         code = (record { max_stack = open_so.stack; max_locals = open_so.locals; bytes = omega (arith, least, room); few_rows = open_so.few_rows; rows = open_so.rows }, open_so.text);
-      } in
-      (record {
-        pool = parts.pool;
-        flags = parts.flags;
-        this_class = parts.this_class;
-        super_class = parts.super_class;
-        few_interfaces = parts.few_interfaces;
-        interfaces = parts.interfaces;
-        few_fields = parts.few_fields;
-        fields = parts.fields;
-        few_methods = longer made.methods added few;
-        methods = all_more (FitsMethod made.pool) made.methods added parts.methods fits;
-      }, tt)
+      } in (
+        record {
+          pool = parts.pool;
+          flags = parts.flags;
+          this_class = parts.this_class;
+          super_class = parts.super_class;
+          few_interfaces = parts.few_interfaces;
+          interfaces = parts.interfaces;
+          few_fields = parts.few_fields;
+          fields = parts.fields;
+          few_methods = longer made.methods added few;
+          methods = all_more (FitsMethod made.pool) made.methods added parts.methods fits;
+        },
+        tt,
+      )
 
   opened_fits : HasRoom method.caught (length method.bytes) (line ∷ rest) → FitsSaid line.said → IfOk (opened_line made method line.number line.said) (FitsMade rest)
   opened_fits room said = by_end (ends line.said) room
@@ -274,19 +290,21 @@ module _ (made : Made) (method : OpenMethod) (line : NumberedLine) (rest : List 
       by_end true left = closed_fits room
       by_end false left =
           and_then _ _ (code_line method made.pool line.number line.said) _ (code_fits method made.pool rest parts.pool open_so line.number line.said said left) (λ coded p.
-          let more = grown made p.keeps p.pool parts in
-          (record {
-            pool = p.pool;
-            flags = more.flags;
-            this_class = more.this_class;
-            super_class = more.super_class;
-            few_interfaces = more.few_interfaces;
-            interfaces = more.interfaces;
-            few_fields = more.few_fields;
-            fields = more.fields;
-            few_methods = more.few_methods;
-            methods = more.methods;
-          }, (p.method, p.room, few)))
+          let more = grown made p.keeps p.pool parts in (
+            record {
+              pool = p.pool;
+              flags = more.flags;
+              this_class = more.this_class;
+              super_class = more.super_class;
+              few_interfaces = more.few_interfaces;
+              interfaces = more.interfaces;
+              few_fields = more.few_fields;
+              fields = more.fields;
+              few_methods = more.few_methods;
+              methods = more.methods;
+            },
+            (p.method, p.room, few),
+          ))
 
 line_fits : (made : Made) (line : NumberedLine) (rest : List NumberedLine) → FitsMade (line ∷ rest) made → FitsSaid line.said → IfOk (line_in made line rest) (FitsMade rest)
 unfolding line_by
@@ -312,38 +330,40 @@ made_fits made (line ∷ more) fits all =
 starts : (lines : List NumberedLine) → FitsMade lines nothing
 starts lines =
     let none : 0 < 2 ^ 16 = omega arith in
-    let few : 0 < 65535 = omega arith in
-    (record {
-      pool = record { few = few; entries = tt; spaced = refl };
-      flags = none;
-      this_class = none;
-      super_class = none;
-      few_interfaces = none;
-      interfaces = tt;
-      few_fields = none;
-      fields = tt;
-      few_methods = none;
-      methods = tt;
-    }, tt)
+    let few : 0 < 65535 = omega arith in (
+      record {
+        pool = record { few = few; entries = tt; spaced = refl };
+        flags = none;
+        this_class = none;
+        super_class = none;
+        few_interfaces = none;
+        interfaces = tt;
+        few_fields = none;
+        fields = tt;
+        few_methods = none;
+        methods = tt;
+      },
+      tt,
+    )
 
 class_fits : (made : Made) → Parts made.pool made → FitsClass (class_of made)
 class_fits made parts =
-  let minor : 0 < 2 ^ 16 = omega arith in
-  let major : 52 < 2 ^ 16 = omega arith in
-  record {
-  minor = minor;
-  major = major;
-  pool = parts.pool;
-  flags = parts.flags;
-  this_class = parts.this_class;
-  super_class = parts.super_class;
-  few_interfaces = parts.few_interfaces;
-  interfaces = parts.interfaces;
-  few_fields = parts.few_fields;
-  fields = parts.fields;
-  few_methods = parts.few_methods;
-  methods = parts.methods;
-}
+    let minor : 0 < 2 ^ 16 = omega arith in
+    let major : 52 < 2 ^ 16 = omega arith in
+    record {
+      minor = minor;
+      major = major;
+      pool = parts.pool;
+      flags = parts.flags;
+      this_class = parts.this_class;
+      super_class = parts.super_class;
+      few_interfaces = parts.few_interfaces;
+      interfaces = parts.interfaces;
+      few_fields = parts.few_fields;
+      fields = parts.fields;
+      few_methods = parts.few_methods;
+      methods = parts.methods;
+    }
 
 ended_fits : (count : ℕ) (made : Made) → FitsMade [] made → IfOk (ended count made) FitsClass
 ended_fits count made fits = by_test (is_whole made) (record { line = count + 1; cause = causes.Line })
@@ -356,7 +376,7 @@ what_is_assembled : (text : List ℕ) → IfOk (assembled text) FitsClass
 unfolding assembled
 what_is_assembled text =
     and_then (FitsMade []) FitsClass (made_by nothing (numbered 1 (lines_of text))) _ (made_fits nothing (numbered 1 (lines_of text)) (starts (numbered 1 (lines_of text))) (lines_fit 1 (lines_of text)))
-      (λ made p. ended_fits (length (lines_of text)) made p)
+    (λ made p. ended_fits (length (lines_of text)) made p)
 
 pub assembled_fits : (text : List ℕ) (class : ClassFile) → assembled text ≡ Ok class → FitsClass class
 assembled_fits text class is = at_ok FitsClass (assembled text) class (what_is_assembled text) is

@@ -131,32 +131,32 @@ module _ (method : OpenMethod) (pool : List PoolEntry) (rest : List NumberedLine
       and_then _ _ (or_range (need_caught class pool)) _ (or_range_so (Added pool) (need_caught class pool) (caught_added class pool fits)) (λ needed p.
       let row : RowInfo = record { start = first; end = last; handler = target; catch_type = needed.1 } in
       and_then (λ rows. (length rows < 2 ^ 16) × AllByRecursion FitsRow rows) _ (one_more method.rows row) _
-        (one_more_so _ method.rows row (λ few. (longer method.rows row few, all_more FitsRow method.rows row open_so.rows (record { start = a; end = b; handler = d; catch_type = p.index }))))
-        (λ rows q.
-        record {
-          pool = p.pool;
-          keeps = p.keeps;
-          method = record {
-            flags = open_so.flags;
-            name = open_so.name;
-            desc = open_so.desc;
-            stack = open_so.stack;
-            locals = open_so.locals;
-            settings = open_so.settings;
-            few_rows = q.0;
-            rows = q.1;
-            text = has_still p.keeps open_so.text;
-          };
-          room = room;
-        })))))
+      (one_more_so _ method.rows row (λ few. (longer method.rows row few, all_more FitsRow method.rows row open_so.rows (record { start = a; end = b; handler = d; catch_type = p.index }))))
+      (λ rows q.
+      record {
+        pool = p.pool;
+        keeps = p.keeps;
+        method = record {
+          flags = open_so.flags;
+          name = open_so.name;
+          desc = open_so.desc;
+          stack = open_so.stack;
+          locals = open_so.locals;
+          settings = open_so.settings;
+          few_rows = q.0;
+          rows = q.1;
+          text = has_still p.keeps open_so.text;
+        };
+        room = room;
+      })))))
 
   standing_fits : (number : ℕ) (statement : Statement) → FitsStatement statement → stands method.caught statement ≡ true → HasRoom (is_catch statement) (pc_after (length method.bytes) statement) rest
       → IfOk (standing_line method pool number statement) (Coded pool rest)
   standing_fits number (Label name) said is room =
       and_then (λ same. Coded pool rest (same, pool)) (Coded pool rest) (set_here number (setting_of method.settings name) method) _
-        (here_so (λ same. Coded pool rest (same, pool)) number (setting_of method.settings name) method
-          (record { pool = fits; keeps = itself pool; method = open_so; room = moved method.caught false (length method.bytes) (length method.bytes) rest (not_caught method.caught is) refl room }))
-        (λ same p. p)
+      (here_so (λ same. Coded pool rest (same, pool)) number (setting_of method.settings name) method
+      (record { pool = fits; keeps = itself pool; method = open_so; room = moved method.caught false (length method.bytes) (length method.bytes) rest (not_caught method.caught is) refl room }))
+      (λ same p. p)
   standing_fits number (Instruction operation) said is room = insn_fits operation said (not_caught method.caught is) room
   standing_fits number (Catch start end handler class) said is room = row_fits start end handler class room
   standing_fits number _ said is room = tt

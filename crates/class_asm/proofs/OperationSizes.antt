@@ -112,7 +112,7 @@ table_long : (settings : List Setting) (pc : ℕ) (low : Number) (other : List �
 table_long settings pc low other labels =
     after _ (in_range (nat_lt (length labels) (2 ^ 32)) (length labels)) _ (λ count.
     and_then _ _ (table_front settings pc low other count) _ (table_front_long settings pc low other count)
-      (λ front is. behind_long front (1 + padding_at pc + 12) (4 * length labels) (long_offsets settings pc labels) is (offsets_long settings pc labels)))
+    (λ front is. behind_long front (1 + padding_at pc + 12) (4 * length labels) (long_offsets settings pc labels) is (offsets_long settings pc labels)))
 
 lookup_long : (settings : List Setting) (pc : ℕ) (other : List ℕ) (cases : List Case) → Long (1 + padding_at pc + 8 + 8 * length cases) (lookup_set settings pc other cases)
 lookup_long settings pc other cases =

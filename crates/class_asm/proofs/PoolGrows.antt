@@ -52,6 +52,7 @@ keeps_more pool entry = record { stays = stays }
     by_entry : (k : ℕ) (text : List ℕ) (found : Option PoolEntry) → slice_get pool k ≡ found → utf8_of found ≡ Some text → utf8_of (slice_get (pool ++ entry ∷ []) k) ≡ Some text
     by_entry k text None at is = absurd (cc)
     by_entry k text (Some x) at is = ap utf8_of (found_in_more pool entry k x at) ∙ is
+
     stays : (index : ℕ) (text : List ℕ) → utf8_at pool index ≡ Some text → utf8_at (pool ++ entry ∷ []) index ≡ Some text
     stays zero text is = absurd (cc)
     stays (suc k) text is = by_entry k text (slice_get pool k) refl is
@@ -96,6 +97,7 @@ need_added entry pool fits single = at (position (is_same entry) pool) refl
           keeps = keeps_more pool entry;
         }
     by_room false room = tt
+
     at : (found : Option ℕ) → position (is_same entry) pool ≡ found → IfSome (need_at found entry pool) (Added pool)
     at (Some place) is =
         let within = (position-Some (is_same entry) pool place Second is).0 in
@@ -137,6 +139,7 @@ text_there text pool = at (position (is_same (Utf8 text)) pool) refl
     by_room : (v : Bool) → IfSome (if v then Some (pool ++ Utf8 text ∷ [], length pool + 1) else None) (Is text)
     by_room true = ap utf8_of (there_now pool (Utf8 text))
     by_room false = tt
+
     at : (found : Option ℕ) → position (is_same (Utf8 text)) pool ≡ found → IfSome (need_at found (Utf8 text) pool) (Is text)
     at (Some place) is =
         let found = position-Some (is_same (Utf8 text)) pool place Second is in

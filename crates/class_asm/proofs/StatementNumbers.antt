@@ -83,7 +83,7 @@ unfolding number_in
 number_in_fits [] = tt
 number_in_fits (b ∷ bs) =
     either FitsNumber (b == 45) _ _ (passed FitsNumber (is_magnitude bs && not (magnitude bs == 0)) _ (number_fits true (magnitude bs)))
-      (passed FitsNumber (is_magnitude (b ∷ bs)) _ (number_fits false (magnitude (b ∷ bs))))
+    (passed FitsNumber (is_magnitude (b ∷ bs)) _ (number_fits false (magnitude (b ∷ bs))))
 
 digit_fits : (d : ℕ) → IfSome (hex_value d) (λ n. n < 16)
 digit_fits d = by_tests (is_in_range 48 57 d) (is_in_range 65 70 d) (is_in_range 97 102 d) refl refl refl
@@ -98,10 +98,10 @@ digit_fits d = by_tests (is_in_range 48 57 d) (is_in_range 65 70 d) (is_in_range
 flags_fit : (text : List ℕ) → IfSome (flags_in text) (λ n. n < 2 ^ 16)
 flags_fit (z ∷ x ∷ a ∷ b ∷ c ∷ d ∷ []) =
     either _ (z == 48 && x == 120) _ _
-      (and_then _ _ (hex_value a) _ (digit_fits a) (λ high p.
-       and_then _ _ (hex_value b) _ (digit_fits b) (λ next q.
-       and_then _ _ (hex_value c) _ (digit_fits c) (λ third r.
-       and_then _ _ (hex_value d) _ (digit_fits d) (λ low s. omega (arith, p, q, r, s)))))) tt
+    (and_then _ _ (hex_value a) _ (digit_fits a) (λ high p.
+    and_then _ _ (hex_value b) _ (digit_fits b) (λ next q.
+    and_then _ _ (hex_value c) _ (digit_fits c) (λ third r.
+    and_then _ _ (hex_value d) _ (digit_fits d) (λ low s. omega (arith, p, q, r, s)))))) tt
 flags_fit _ = tt
 
 abbrev pub FitsValue : Constant → Type 0

@@ -1,5 +1,6 @@
 //! Assembles the lines of a text.
-ghost use Rattle.std.specs.Prelude.{◌≡◌, drop, Ok, OnOk};
+ghost use Rattle.std.specs.Prelude.{◌≡◌, drop, Ok, IfOk, OnOk};
+ghost use Rattle.class_pool.specs.Fitting.{FitsClass};
 ghost use Rattle.class_asm.specs.Halts.{Comes};
 ghost use Rattle.class_asm.specs.Making.{IsMaker};
 ghost use Rattle.class_asm.specs.Assembling.{seen, seen_code};
@@ -548,7 +549,8 @@ fn class_or_refusal(alloc: Global, text: &[u8]) -> Result<ClassFile, Refusal>
 
 /// The class that a text says, or its first fault.
 pub fn assemble(alloc: Global, text: &[u8]) -> Result<ClassFile, AsmFault>
-    ensures { Answers result (answer_of text.now) }
+    ensures answer { Answers result (answer_of text.now) }
+    ensures fits { IfOk result (λ class. FitsClass class) }
 {
     match class_or_refusal(alloc, text) {
         Ok(class) => Ok(class),
