@@ -168,9 +168,9 @@ fn bytes_are_missing_or_left(rt: HostRuntime) {
     let mut longer = [0; 320];
     longer[..319].copy_from_slice(class_a());
     assert_eq!(rt; told(read_class(rt.alloc(), &longer)), [10, 319]);
-    for length in [0usize, 3, 9, 30, 181, 272, 318] {
-        let answer = told(read_class(rt.alloc(), &class_a()[..length]));
-        assert_eq!(rt; answer, [1, length as u32], "{length}");
+    for length in [0u32, 3, 9, 30, 181, 272, 318] {
+        let cut = &longer[..(length as usize).min(319)];
+        assert_eq!(rt; told(read_class(rt.alloc(), cut)), [1, length], "{length}");
     }
 }
 
