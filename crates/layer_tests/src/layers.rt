@@ -1,4 +1,4 @@
-//! The layers below the commands on the worked class.
+//! A policy is read, methods and nodes are spelled, the class is typed and run.
 use chain_report::nodes::push_node;
 use class_read::read_class;
 use dep_nodes::{NodeKind, NodeName, SiteList};

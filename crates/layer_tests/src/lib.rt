@@ -1,0 +1,5 @@
+//! Tests of the layers below the commands on the worked class. Expected labels, texts and events are written by hand.
+#![tactic(auto)]
+
+#[cfg(test)]
+mod layers;
