@@ -15,7 +15,8 @@ IsAsmText status bytes = ⊥
 
 -- what bytes with a status say of a text
 abbrev pub IsAssemblyOf : List ℕ → Status → List ℕ → Type 0
-IsAssemblyOf text Done bytes = (class : ClassFile) × (text_class text ≡ Ok class) × (bytes ≡ spelled_class class)
+IsAssemblyOf text Done bytes =
+    (class : ClassFile) × (text_class text ≡ Ok class) × (bytes ≡ spelled_class class)
 IsAssemblyOf text status bytes = ⊥
 
 -- what refuses a text: its size or its first fault

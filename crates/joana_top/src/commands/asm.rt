@@ -27,7 +27,8 @@ fn assemble_file(alloc: Global, text: &[u8]) -> Result<Answer, Stop>
 pub fn run<F: Files>(alloc: Global, files: &mut F, name: &str) -> Result<Answer, Stop>
     ensures after { AfterReads (IsOnlyRead name.now) result
         (files_change F.held F.faults F.failed files.old files.new) }
-    ensures outcome { IsOutcome (IsAsmAnswer (F.held files.old) name.now) (AsmRefuses (F.held files.old) name.now) result }
+    ensures outcome { IsOutcome (IsAsmAnswer (F.held files.old) name.now)
+        (AsmRefuses (F.held files.old) name.now) result }
 {
     match read_file(alloc, files, 0, name) {
         Ok(text) => assemble_file(alloc, text.as_slice()),

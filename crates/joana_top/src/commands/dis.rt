@@ -29,7 +29,8 @@ fn list_file(alloc: Global, file: &[u8]) -> Result<Answer, Stop>
 pub fn run<F: Files>(alloc: Global, files: &mut F, name: &str) -> Result<Answer, Stop>
     ensures after { AfterReads (IsOnlyRead name.now) result
         (files_change F.held F.faults F.failed files.old files.new) }
-    ensures outcome { IsOutcome (IsDisAnswer (F.held files.old) name.now) (DisRefuses (F.held files.old) name.now) result }
+    ensures outcome { IsOutcome (IsDisAnswer (F.held files.old) name.now)
+        (DisRefuses (F.held files.old) name.now) result }
 {
     match read_file(alloc, files, 0, name) {
         Ok(file) => list_file(alloc, file.as_slice()),
