@@ -4,3 +4,4 @@ pub mod ItemScan
 pub mod Words
 pub mod Statements
 pub mod Numbered
+pub mod Grammar

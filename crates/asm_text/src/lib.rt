@@ -1,6 +1,7 @@
 //! The lines of an assembly text, and what each of them says (the grammar is this project's own).
 #![tactic(auto)]
 
+pub mod laws;
 pub mod lines;
 mod reading;
 pub mod statements;

@@ -6,3 +6,5 @@ pub mod StatementNumbers
 pub mod PoolGrows
 pub mod CodeFits
 pub mod ClassFits
+mod OnlyRanges
+mod TextsAgree

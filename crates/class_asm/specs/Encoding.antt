@@ -1,6 +1,6 @@
 -- The bytes of operations, once labels have pcs (this project's own; JVM Specification SE 8, 4.7.3 and
 -- 6.5). Each is in order, or has the lowest cause of a fault: a label that isn't set comes before what doesn't fit its field.
-use Rattle.std.specs.Prelude.{ℕ, ◌+◌, ◌-◌, ◌%◌, ◌^◌, Bool, true, false, ◌&&◌, not, nat_lt, if◌then◌else◌, ℤ, pos, int_lt, unsigned_abs, ◌+ℤ◌, ◌-ℤ◌, List, [], ◌∷◌, ◌++◌, length, replicate, Option, Some, None, Result, Ok, Err}
+use Rattle.std.specs.Prelude.{ℕ, ◌-◌, ◌%◌, ◌^◌, Bool, true, false, ◌&&◌, not, nat_lt, if◌then◌else◌, ℤ, pos, int_lt, unsigned_abs, ◌+ℤ◌, ◌-ℤ◌, List, [], ◌∷◌, ◌++◌, length, replicate, Option, Some, None, Result, Ok, Err}
 use Rattle.std.specs.List.{list_all}
 use Rattle.std.specs.Option.{is_some}
 use Rattle.byteorder.specs.Endian.{big_bytes}

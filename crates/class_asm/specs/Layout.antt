@@ -11,7 +11,6 @@ use Rattle.asm_text.specs.declared.statements.Operation.TheVariants.{Plain, Loca
 use Rattle.asm_text.specs.declared.statements.Statement.{Statement}
 use Rattle.asm_text.specs.declared.statements.Statement.TheVariants.{Label, Instruction, Catch, End}
 use Rattle.asm_text.specs.declared.texts.NumberedLine.{NumberedLine}
-use Rattle.asm_text.specs.Statements.{statement_of}
 
 -- ---- which lines count
 

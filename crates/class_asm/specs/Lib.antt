@@ -7,3 +7,4 @@ pub mod Labelled
 pub mod Halts
 pub mod Assembling
 pub mod Answers
+pub mod Texts

@@ -465,7 +465,7 @@ impl Parts {
 }
 
 /// Why a text wasn't assembled. Lines are counted from 1, and one past 2^32 - 1 stands as that number.
-#[derive(Clone, Copy)]
+#[derive(Clone, Copy, PartialEq, Eq, Debug)]
 pub enum AsmFault {
     /// The line is outside the grammar; or the text ends too early, and it is the line behind its last.
     Line(u32),

@@ -1,6 +1,28 @@
 use crate::{AsmFault, assemble};
-use class_pool::PoolEntry;
+use class_pool::{ClassFile, PoolEntry};
 use std::test::Fail;
+
+/// The bytes of the code of the one method.
+fn code_of(class: &ClassFile) -> &[u8] {
+    match class.methods.as_slice() {
+        [method] => match &method.code {
+            Some(code) => code.bytes.as_slice(),
+            None => b"",
+        },
+        _ => b"",
+    }
+}
+
+/// Whether an invokeinterface of a method with this descriptor has this count behind its index.
+fn is_counted(rt: &impl AllocGlobal, desc: &str, count: u8) -> Result<bool, Fail> {
+    let text = format!(in rt.alloc();
+        "class A super B flags 0x0021\nmethod m ()V flags 0x0008 stack 9 locals 9\ninvokeinterface I.f{desc}\nend\n"
+    )?;
+    let class = assemble(rt.alloc(), text.as_bytes())
+        .ok()
+        .ok_or("it is a class")?;
+    Ok(matches!(code_of(&class), [185, _, _, words, 0] if *words == count))
+}
 
 /// Whether the text is refused by the fault of this code, A1 to A3, in this line; 0 stands for no fault.
 fn is_refused(rt: &impl AllocGlobal, text: &str, code: u8, line: u32) -> bool {
@@ -79,5 +101,13 @@ fn numbers_past_their_fields(rt: HostRuntime) -> Result<(), Fail> {
     assert!(rt; is_code_refused(&rt, "iinc 0 128", 3, 3)?);
     assert!(rt; is_code_refused(&rt, "ldc \"a b%25\"", 0, 0)?);
     assert!(rt; is_code_refused(&rt, "ldc \"a b%2c\"", 1, 3)?);
+    Ok(())
+}
+
+#[test]
+fn long_arguments_count_twice(rt: HostRuntime) -> Result<(), Fail> {
+    assert!(rt; is_counted(&rt, "()V", 1)?);
+    assert!(rt; is_counted(&rt, "(J)V", 3)?);
+    assert!(rt; is_counted(&rt, "(ID[J[[DLJ;J)D", 9)?);
     Ok(())
 }

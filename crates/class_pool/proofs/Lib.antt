@@ -1,6 +1,5 @@
 pub mod Many
 mod PoolEntries
-mod Parameters
 mod KnownFacts
 pub mod PoolFits
 pub mod PoolStops

@@ -1,6 +1,6 @@
 -- Code (JVM Specification SE 8, 4.7.3, 4.9.1): first its instructions one after another, then their jumps, then the rows of
 -- its exception table. A fault here is a code and a pc, or a code and a row.
-use Rattle.std.specs.Prelude.{ℕ, zero, suc, ◌+◌, ◌-◌, Bool, true, false, ◌&&◌, ◌||◌, not, nat_lt, nat_le, ◌==◌, if◌then◌else◌, ℤ, pos, ◌+ℤ◌, ◌%◌, List, [], ◌∷◌, length, take, drop, Option, Some, None, Result, Ok, Err}
+use Rattle.std.specs.Prelude.{ℕ, zero, suc, ◌+◌, ◌-◌, Bool, true, false, ◌&&◌, ◌||◌, not, nat_lt, nat_le, ◌==◌, if◌then◌else◌, pos, ◌+ℤ◌, ◌%◌, List, [], ◌∷◌, length, take, drop, Option, Some, None, Result, Ok, Err}
 use Rattle.std.specs.List.{list_all, flat_map}
 use Rattle.jo_insn.specs.declared.instructions.Insn.{Insn}
 use Rattle.jo_insn.specs.declared.instructions.Insn.TheVariants.{Pooled, TableSwitch, LookupSwitch}
@@ -163,16 +163,24 @@ row_fault pool size insns k (row ∷ more) = at_row (first_failing (row_question
 
 -- ---- the code that is kept
 
--- how many words the arguments of a call with this descriptor take, its receiver included, where none is a long or double
+-- how many words a parameter takes whose base type has this letter, by JVMS 6.5.invokeinterface: a long or a double two, all
+-- else one, arrays too
+abbrev pub words_of : Bool → ℕ → ℕ
+words_of in_array letter = if not in_array && (letter == 74 || letter == 68) then 2 else 1
+
+-- The words of the parameters from here on, and so many before. A parameter is counted at its base type, which is the
+-- letter that ends it or the `L` of a class's name.
+abbrev pub words_from : ℕ → Bool → Bool → List ℕ → ℕ
+words_from count in_array in_name [] = count
+words_from count in_array true (b ∷ bs) = words_from count false (not (b == 59)) bs
+words_from count in_array false (b ∷ bs) =
+    if b == 41 then count
+    else if b == 40 || b == 91 then words_from count (b == 91) false bs
+    else words_from (count + words_of in_array b) false (b == 76) bs
+
+-- how many words the arguments of a call with this descriptor take, its receiver included
 abbrev pub argument_words : List ℕ → ℕ
-argument_words desc = 1 + parameters_in 0 false desc
-  where
-    -- a parameter is counted at its base type, which is the letter that ends it or the `L` of a class's name
-    parameters_in : ℕ → Bool → List ℕ → ℕ
-    parameters_in count in_name [] = count
-    parameters_in count true (b ∷ bs) = parameters_in count (not (b == 59)) bs
-    parameters_in count false (b ∷ bs) =
-        if b == 41 then count else if b == 40 || b == 91 then parameters_in count false bs else parameters_in (suc count) (b == 76) bs
+argument_words desc = 1 + words_from 0 false false desc
 
 -- what stands behind the operands of an instruction: the offsets or pairs of a switch as they are, and behind the index of
 -- an invokeinterface the count of its argument words and a zero

@@ -1,6 +1,6 @@
 //! A constant pool with what is asked of its texts. Each text is looked at once, however many entries, members and
 //! instructions name it.
-ghost use Rattle.std.specs.Prelude.{◌≡◌, false, Some, IfOk};
+ghost use Rattle.std.specs.Prelude.{◌≡◌, ◌≤◌, false, Some, IfOk};
 ghost use Rattle.std.specs.Option.{option_copied};
 ghost use Rattle.class_pool.specs.Code;
 ghost use Rattle.class_pool.specs.Pool.{utf8_at as utf8_with, desc_at as desc_with};
@@ -124,19 +124,36 @@ fn names_wide(desc: &[u8]) -> bool
     false
 }
 
+/// How many words a parameter takes whose base type has this letter: a long or a double two.
+fn words_of(in_array: bool, letter: u8) -> usize
+    ensures words { result ≡ Code.words_of in_array letter }
+    ensures few { result ≤ 2 }
+{
+    if !in_array && matches!(letter, b'J' | b'D') {
+        2
+    } else {
+        1
+    }
+}
+
 /// How many words the arguments of a call with this descriptor take, its receiver included.
 pub fn argument_words(desc: &[u8]) -> usize
     ensures { result ≡ Code.argument_words desc.now }
 {
     let mut count = 0;
+    let mut in_array = false;
     let mut in_name = false;
     for byte in desc {
         if in_name {
             in_name = *byte != b';';
+            in_array = false;
         } else if *byte == b')' {
             return 1 + count;
-        } else if !matches!(*byte, b'(' | b'[') {
-            count += 1;
+        } else if matches!(*byte, b'(' | b'[') {
+            in_array = *byte == b'[';
+        } else {
+            count += words_of(in_array, *byte);
+            in_array = false;
             in_name = *byte == b'L';
         }
     }

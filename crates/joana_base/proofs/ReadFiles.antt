@@ -1,5 +1,5 @@
 -- From what single reads say to what reading the files of a program says.
-use Rattle.std.proofs.Common.{◌≡◌, ◌∙◌, ℕ, suc, ◌+◌, ◌<◌, ◌≤◌, ◌^◌, Bool, true, false, cond, not, ◌==◌, ◌||◌, List, [], ◌∷◌, ◌++◌, length, drop, filter, get_or, Option, Some, IfSome, Result, Ok, Err, slice_get, refl, sym, ap, subst, arith}
+use Rattle.std.proofs.Common.{◌≡◌, ◌∙◌, ℕ, suc, ◌+◌, ◌<◌, ◌≤◌, ◌^◌, Bool, true, false, cond, not, ◌==◌, ◌||◌, List, [], ◌∷◌, ◌++◌, length, drop, filter, get_or, Option, Some, IfSome, Result, Err, slice_get, refl, sym, ap, subst, arith}
 use Rattle.std.specs.Prelude.{Vec}
 use Rattle.std.specs.Str.{IsUtf8, is_utf8}
 use Rattle.std.specs.Str.Lines.{lines, lines_of_parts}
@@ -11,7 +11,7 @@ use Rattle.std.proofs.lemmas.List.{append-nil, drop_more, drop_all}
 use Rattle.jo_io.specs.Counts.{Rose}
 use Rattle.class_pool.specs.declared.classes.ClassFile.{ClassFile}
 use Rattle.joana_base.specs.Files.{Held, ProgramNames, ProgramFiles, paths_of, IsToldAs, AreToldAs, AreProgramFiles, is_large, classes_of, program_classes}
-use Rattle.joana_base.specs.Reading.{all_bytes, FilesChange, change_of, AreReadable, IsPathRead, IsProgramRead, AfterRead, AfterPathReads, AfterListReads, AfterProgramReads, ReadsList, ReadsProgram}
+use Rattle.joana_base.specs.Reading.{all_bytes, change_of, AreReadable, IsPathRead, IsProgramRead, AfterRead, AfterPathReads, AfterListReads, AfterProgramReads, ReadsList, ReadsProgram}
 use Rattle.joana_base.specs.declared.reading.ProgramFiles as memory
 use Rattle.joana_base.specs.declared.answers.Stop.{Stop}
 use Rattle.joana_base.specs.declared.answers.Stop.TheVariants.{Faulty, Unread, Memory}

@@ -6,8 +6,10 @@ use Rattle.jo_text.specs.Lines.{lines_of}
 use Rattle.class_pool.specs.declared.classes.ClassFile.{ClassFile}
 use Rattle.class_pool.specs.declared.faults.ClassFault.{ClassFault}
 use Rattle.class_pool.specs.ClassOrder.{class_of}
+use Rattle.class_asm.specs.declared.assembly.AsmFault.{AsmFault}
+use Rattle.class_asm.specs.Answers.{answer_of}
 use Rattle.joana_base.specs.declared.reading.ProgramNames as lent
-use Rattle.joana_base.specs.declared.status.InputFault.TheVariants.{NotBuilt, Class}
+use Rattle.joana_base.specs.declared.status.InputFault.TheVariants.{NotBuilt, Class, Asm}
 use Rattle.jo_ids.specs.declared.LimitKind.TheVariants.{M2}
 use Rattle.joana_base.specs.declared.status.Refusal.{Refusal}
 use Rattle.joana_base.specs.declared.status.Refusal.TheVariants.{Input, Limit}
@@ -64,6 +66,14 @@ class_numbered number (Ok class) = Ok class
 -- the class of the one file of a command; or why there is none: it is too large, or has a fault
 abbrev pub file_class : List ℕ → Result ClassFile Refusal
 file_class bytes = if is_large bytes then Err (Limit M2) else class_numbered 0 (class_of bytes)
+
+abbrev pub class_said : Result ClassFile AsmFault → Result ClassFile Refusal
+class_said (Err fault) = Err (Input (Asm fault))
+class_said (Ok class) = Ok class
+
+-- the class that the one text of a command says; or why there is none: it is too large, or has a fault
+abbrev pub text_class : List ℕ → Result ClassFile Refusal
+text_class text = if is_large text then Err (Limit M2) else class_said (answer_of text)
 
 -- a class before others; what refuses it comes before what refuses these
 abbrev pub before : Result ClassFile Refusal → Result (List ClassFile) Refusal

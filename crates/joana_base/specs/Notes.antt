@@ -6,8 +6,10 @@ use Rattle.class_pool.specs.declared.faults.Cut.TheVariants.{Opcode, Constant, W
 use Rattle.class_pool.specs.declared.faults.ClassCode.{ClassCode}
 use Rattle.class_pool.specs.declared.faults.ClassCode.TheVariants.{Truncated, Magic, Version, PoolTag, PoolIndex, BadText, BadDescriptor, CodeBounds, BadOpcode, Trailing, Unsupported, Memory}
 use Rattle.class_pool.specs.declared.faults.ClassFault.{ClassFault}
+use Rattle.class_asm.specs.declared.assembly.AsmFault.{AsmFault}
+use Rattle.class_asm.specs.declared.assembly.AsmFault.TheVariants as texts
 use Rattle.joana_base.specs.declared.status.InputFault.{InputFault}
-use Rattle.joana_base.specs.declared.status.InputFault.TheVariants.{NotBuilt, Class}
+use Rattle.joana_base.specs.declared.status.InputFault.TheVariants.{NotBuilt, Class, Asm}
 use Rattle.jo_ids.specs.declared.LimitKind.{LimitKind}
 use Rattle.jo_ids.specs.declared.LimitKind.TheVariants.{M1, M2, M3, M4, M5, M6, M7}
 use Rattle.joana_base.specs.declared.status.Refusal.{Refusal}
@@ -54,9 +56,17 @@ abbrev pub class_words : ℕ → ClassFault → List ℕ
 class_words file fault =
     code_word fault.code ++ 32 ∷ decimal file ++ 32 ∷ decimal fault.place ++ detail fault.code
 
+-- the fault of an assembly text: its code and its line
+abbrev pub asm_words : AsmFault → List ℕ
+asm_words (texts.Line line) = codes "A1 " ++ decimal line
+asm_words (texts.Label line) = codes "A2 " ++ decimal line
+asm_words (texts.Range line) = codes "A3 " ++ decimal line
+asm_words texts.Memory = []
+
 abbrev pub fault_words : InputFault → List ℕ
 fault_words NotBuilt = codes "NotBuilt"
 fault_words (Class file fault) = class_words file fault
+fault_words (Asm fault) = asm_words fault
 
 abbrev pub limit_word : LimitKind → List ℕ
 limit_word M1 = codes "M1"

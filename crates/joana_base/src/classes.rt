@@ -3,12 +3,14 @@ ghost use Rattle.std.specs.Prelude.{◌≡◌, ◌<◌, ◌^◌, false, length, 
 ghost use Rattle.std.specs.List.{list_any};
 ghost use Rattle.class_pool.specs.ClassOrder.{class_of};
 ghost use Rattle.class_pool.specs.ClassGrammar.{IsClass};
-ghost use Rattle.joana_base.specs.Files.{is_large as is_too_large, class_numbered, file_class, classes_from, classes_of as classes_in};
+ghost use Rattle.class_pool.specs.Fitting.{FitsClass};
+ghost use Rattle.joana_base.specs.Files.{is_large as is_too_large, class_numbered, file_class, text_class, classes_from, classes_of as classes_in};
 ghost use Rattle.joana_base.specs.Reading.{all_bytes, AreClasses, IsUnlessMemory};
 
 use crate::answers::Stop;
 use crate::reading::is_large;
 use crate::status::{InputFault, LimitKind, Refusal};
+use class_asm::{AsmFault, assemble};
 use class_pool::{ClassCode, ClassFile};
 use class_read::read_class;
 use jo_ids::List;
@@ -82,4 +84,19 @@ pub fn class_of_file(alloc: Global, file: &[u8]) -> Result<ClassFile, Stop>
         return Err(Stop::Faulty(Refusal::Limit(LimitKind::M2)));
     }
     class_in(alloc, 0, file)
+}
+
+/// The class that the one text of a command says.
+pub fn class_of_text(alloc: Global, text: &[u8]) -> Result<ClassFile, Stop>
+    ensures value { IsUnlessMemory result (text_class text.now) }
+    ensures fits { IfOk result (λ class. FitsClass class) }
+{
+    if is_large(text) {
+        return Err(Stop::Faulty(Refusal::Limit(LimitKind::M2)));
+    }
+    match assemble(alloc, text) {
+        Ok(class) => Ok(class),
+        Err(AsmFault::Memory) => Err(Stop::Memory),
+        Err(fault) => Err(Stop::Faulty(Refusal::Input(InputFault::Asm(fault)))),
+    }
 }

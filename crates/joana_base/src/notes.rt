@@ -4,6 +4,7 @@ ghost use Rattle.std.specs.Fmt.{decimal};
 ghost use Rattle.joana_base.specs.Notes;
 
 use crate::status::{InputFault, LimitKind, Refusal};
+use class_asm::AsmFault;
 use class_pool::{ClassCode, ClassFault, Cut};
 use std::alloc::{AllocError as Memory, Global};
 
@@ -78,12 +79,33 @@ fn push_class_fault(
     push_detail(alloc, out, fault.code)
 }
 
+/// A word and the line of an assembly text with a fault.
+fn push_at_line(alloc: Global, out: &mut Vec<u8>, word: &[u8], line: u32) -> Result<(), Memory>
+    ensures { OnOk result (out.new.items ≡ out.old.items ++ (word.now ++ decimal line)) }
+{
+    out.extend_from_slice(word)?;
+    push_number(alloc, out, line)
+}
+
+/// The fault of an assembly text. Want of memory is none.
+fn push_asm_fault(alloc: Global, out: &mut Vec<u8>, fault: AsmFault) -> Result<(), Memory>
+    ensures { OnOk result (out.new.items ≡ out.old.items ++ Notes.asm_words fault) }
+{
+    match fault {
+        AsmFault::Line(line) => push_at_line(alloc, out, b"A1 ", line),
+        AsmFault::Label(line) => push_at_line(alloc, out, b"A2 ", line),
+        AsmFault::Range(line) => push_at_line(alloc, out, b"A3 ", line),
+        AsmFault::Memory => Ok(()),
+    }
+}
+
 fn push_fault(alloc: Global, out: &mut Vec<u8>, fault: InputFault) -> Result<(), Memory>
     ensures { OnOk result (out.new.items ≡ out.old.items ++ Notes.fault_words fault) }
 {
     match fault {
         InputFault::NotBuilt => out.extend_from_slice(b"NotBuilt"),
         InputFault::Class(file, fault) => push_class_fault(alloc, out, file, fault),
+        InputFault::Asm(fault) => push_asm_fault(alloc, out, fault),
     }
 }
 

@@ -1,4 +1,5 @@
 //! What a run of the program answers.
+use class_asm::AsmFault;
 use class_pool::ClassFault;
 pub use jo_ids::LimitKind;
 
@@ -28,6 +29,8 @@ pub enum InputFault {
     NotBuilt,
     /// The first fault of the class file with that number, counted from 0 in the order of the class list.
     Class(u32, ClassFault),
+    /// The first fault of an assembly text.
+    Asm(AsmFault),
 }
 
 /// What failed outside of the program.

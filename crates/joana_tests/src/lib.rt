@@ -2,6 +2,8 @@
 #![tactic(auto)]
 
 #[cfg(test)]
+mod asm_tests;
+#[cfg(test)]
 mod check_tests;
 #[cfg(test)]
 mod dis_tests;

@@ -14,9 +14,9 @@ use Rattle.joana_base.specs.declared.answers.Answer.TheVariants.{Yes, No}
 use Rattle.joana_base.specs.declared.answers.Stop.{Stop}
 use Rattle.joana_base.specs.declared.answers.Stop.TheVariants.{Faulty, Unread, Memory}
 use Rattle.joana_base.proofs.ReadFiles.{readable}
-use Rattle.joana_top.specs.Answers.{IsReadOutcome}
-use Rattle.joana_top.specs.Check.{IsFirstForm, IsInput, IsReportOf, IsReportText, IsCheckText, IsVerdictOn, IsCheckAnswer, IsSecureCheck, IsDecision, IsReadClass, IsShown, IsFilesOutcome, IsCheckOutcome}
-use Rattle.joana_top.specs.Dis.{IsFileOutcome, IsDisOutcome}
+use Rattle.joana_top.specs.Answers.{IsOutcome, IsReadOutcome}
+use Rattle.joana_top.specs.Check.{IsFirstForm, IsInput, IsReportOf, IsReportText, IsCheckText, IsCheckAnswer, IsSecureCheck, IsDecision, IsReadClass, IsShown, IsFilesOutcome, IsCheckOutcome}
+use Rattle.joana_top.specs.OneFile.{OfFile}
 use Rattle.joana_top.specs.declared.commands.check.Decision.{Decision}
 use Rattle.joana_top.specs.declared.commands.check.Decision.TheVariants as decisions
 
@@ -36,11 +36,14 @@ check_outcome held names files (Err (Faulty refusal)) are said = (files, are, sa
 check_outcome held names files (Err (Unread unread)) are said = tt
 check_outcome held names files (Err Memory) are said = tt
 
-pub dis_outcome : (held : Held) (name bytes : List ℕ) (result : Result Answer Stop) → IsToldAs held name bytes → IsFileOutcome bytes result → IsDisOutcome held name result
-dis_outcome held name bytes (Ok answer) told said = (bytes, told, said)
-dis_outcome held name bytes (Err (Faulty refusal)) told said = (bytes, told, said)
-dis_outcome held name bytes (Err (Unread unread)) told said = tt
-dis_outcome held name bytes (Err Memory) told said = tt
+-- one file, then an outcome
+pub file_outcome : (IsAnswer : List ℕ → Status → List ℕ → Type 0) (IsRefusal : List ℕ → Refusal → Type 0) (held : Held) (name bytes : List ℕ) (result : Result Answer Stop)
+    → IsToldAs held name bytes → IsReadOutcome (IsAnswer bytes) (IsRefusal bytes) result
+    → IsOutcome (λ status text. OfFile held name (λ b. IsAnswer b status text)) (λ refusal. OfFile held name (λ b. IsRefusal b refusal)) result
+file_outcome IsAnswer IsRefusal held name bytes (Ok answer) told said = (bytes, told, said)
+file_outcome IsAnswer IsRefusal held name bytes (Err (Faulty refusal)) told said = (bytes, told, said)
+file_outcome IsAnswer IsRefusal held name bytes (Err (Unread unread)) told said = tt
+file_outcome IsAnswer IsRefusal held name bytes (Err Memory) told said = tt
 
 -- ---- the class of a check
 

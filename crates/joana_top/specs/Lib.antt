@@ -2,6 +2,8 @@ pub mod Words
 pub mod Sinks
 pub mod Answers
 pub mod Check
+pub mod OneFile
+pub mod Asm
 pub mod Dis
 pub mod Help
 pub mod Commands

@@ -4,13 +4,14 @@ use Rattle.std.specs.Str.{bytes_eq}
 use Rattle.std.specs.declared.alloc.Global.{Global}
 use Rattle.joana_base.specs.Files.{ProgramNames, names_of}
 use Rattle.joana_top.specs.declared.words.Kind.{Kind}
-use Rattle.joana_top.specs.declared.words.Kind.TheVariants.{Check, Dis, Help}
+use Rattle.joana_top.specs.declared.words.Kind.TheVariants.{Check, Asm, Dis, Help}
 use Rattle.joana_top.specs.declared.words.Command as lent
 use Rattle.joana_top.specs.declared.words.Command.TheVariants as lents
 
 -- a command with the names of its files
 pub data Command : Type 0 where
   check : ProgramNames → Command
+  asm : List ℕ → Command
   dis : List ℕ → Command
   help : Command
 
@@ -18,6 +19,7 @@ pub data Command : Type 0 where
 abbrev pub command_words : List (List ℕ × List ℕ × Kind)
 command_words =
     (codes "check", codes " CLASSES POLICY", Check)
+    ∷ (codes "asm", codes " FILE", Asm)
     ∷ (codes "dis", codes " FILE", Dis)
     ∷ (codes "help", [], Help)
     ∷ []
@@ -29,6 +31,7 @@ kind_in (row ∷ rows) word = if bytes_eq row.0 word then Some row.2 else kind_i
 -- the command with these names of files, where it takes so many
 abbrev pub with_names : Kind → List (List ℕ) → Option Command
 with_names Check (classes ∷ policy ∷ []) = Some (check (record { classes = classes; policy = policy }))
+with_names Asm (file ∷ []) = Some (asm file)
 with_names Dis (file ∷ []) = Some (dis file)
 with_names Help [] = Some help
 with_names kind names = None
@@ -49,5 +52,6 @@ command_in words = command_of (map string_bytes words)
 
 abbrev pub as_command : lent.Command → Command
 as_command (lents.Check names) = check (names_of names)
+as_command (lents.Asm file) = asm file.now
 as_command (lents.Dis file) = dis file.now
 as_command lents.Help = help

@@ -3,6 +3,7 @@ ghost use Rattle.joana_base.specs.Reading.{files_change};
 ghost use Rattle.joana_top.specs.Words.{as_command};
 ghost use Rattle.joana_top.specs.Commands.{AfterCommandReads, IsCommandOutcome};
 
+mod asm;
 mod check;
 mod dis;
 mod help;
@@ -24,6 +25,7 @@ pub fn run_command<F: Files>(
 {
     match command {
         Command::Check(names) => check::run(alloc, files, names),
+        Command::Asm(name) => asm::run(alloc, files, name),
         Command::Dis(name) => dis::run(alloc, files, name),
         Command::Help => help::run(alloc),
     }

@@ -11,14 +11,16 @@ use std::alloc::{AllocError as Memory, Global};
 #[derive(Clone, Copy)]
 enum Kind {
     Check,
+    Asm,
     Dis,
     Help,
 }
 
 /// The first words, the names of files that stand behind them, and the commands that they mean.
 #[rattlefmt::skip]
-const COMMANDS: [(&str, &str, Kind); 3] = [
+const COMMANDS: [(&str, &str, Kind); 4] = [
     ("check", " CLASSES POLICY", Kind::Check),
+    ("asm", " FILE", Kind::Asm),
     ("dis", " FILE", Kind::Dis),
     ("help", "", Kind::Help),
 ];
@@ -28,6 +30,8 @@ const COMMANDS: [(&str, &str, Kind); 3] = [
 pub enum Command<'a> {
     /// `check CLASSES POLICY`.
     Check(ProgramNames<'a>),
+    /// `asm FILE`.
+    Asm(&'a str),
     /// `dis FILE`.
     Dis(&'a str),
     /// `help`.
@@ -62,6 +66,10 @@ fn with_names(kind: Kind, names: &[String]) -> Option<Command<'_>>
                 classes: classes.as_str(),
                 policy: policy.as_str(),
             })),
+            _ => None,
+        },
+        Kind::Asm => match names {
+            [file] => Some(Command::Asm(file.as_str())),
             _ => None,
         },
         Kind::Dis => match names {

@@ -21,6 +21,17 @@ fn sink(alloc: Global) -> io::Result<MemorySink> {
     Ok(MemorySink::new(alloc, ROOM, Vec::new(alloc))?)
 }
 
+/// Prints what was put: a text as it is, and other bytes to the base sixteen, on a line.
+fn show(rt: &HostRuntime, bytes: &[u8]) -> io::Result<()> {
+    if let Ok(text) = str::from_utf8(bytes) {
+        return print!(rt; "{text}");
+    }
+    for byte in bytes {
+        print!(rt; "{byte:02x}")?;
+    }
+    println!(rt; "")
+}
+
 /// Runs the words between the spaces of a line.
 fn run_line(rt: &HostRuntime, line: &str) -> io::Result<()> {
     let alloc = rt.alloc();
@@ -33,7 +44,7 @@ fn run_line(rt: &HostRuntime, line: &str) -> io::Result<()> {
     let mut notes = sink(alloc)?;
     let status = joana(alloc, words.as_slice(), &mut files, &mut out, &mut notes);
     println!(rt; "$ joana {line}")?;
-    print!(rt; "{}", text_of(out.bytes())?)?;
+    show(rt, out.bytes())?;
     print!(rt; "{}", text_of(notes.bytes())?)?;
     println!(rt; "status {}", status.code())
 }

@@ -1,7 +1,8 @@
 //! `dis FILE`: the listing of a class file.
-ghost use Rattle.std.specs.Prelude.{◌≡◌, ℕ, List};
-ghost use Rattle.joana_base.specs.Reading.{files_change};
-ghost use Rattle.joana_top.specs.Dis.{AfterDisRead, IsFileOutcome, IsDisOutcome};
+ghost use Rattle.joana_base.specs.Reading.{files_change, AfterReads};
+ghost use Rattle.joana_top.specs.Answers.{IsOutcome, IsReadOutcome};
+ghost use Rattle.joana_top.specs.OneFile.{IsOnlyRead};
+ghost use Rattle.joana_top.specs.Dis.{IsListingOf, IsClassRefusal, IsDisAnswer, DisRefuses};
 
 use class_dis::laws::what_is_read_is_short;
 use class_dis::listing;
@@ -11,7 +12,7 @@ use std::alloc::Global;
 
 /// The listing of a file that was read.
 fn list_file(alloc: Global, file: &[u8]) -> Result<Answer, Stop>
-    ensures { IsFileOutcome file.now result }
+    ensures { IsReadOutcome (IsListingOf file.now) (IsClassRefusal file.now) result }
 {
     let class = match class_of_file(alloc, file) {
         Ok(class) => class,
@@ -26,8 +27,10 @@ fn list_file(alloc: Global, file: &[u8]) -> Result<Answer, Stop>
 
 /// What `dis` comes to.
 pub fn run<F: Files>(alloc: Global, files: &mut F, name: &str) -> Result<Answer, Stop>
-    ensures after { AfterDisRead name.now result (files_change F.held F.faults F.failed files.old files.new) }
-    ensures outcome { IsDisOutcome (F.held files.old) name.now result }
+    ensures after { AfterReads (IsOnlyRead name.now) result
+        (files_change F.held F.faults F.failed files.old files.new) }
+    ensures outcome { IsOutcome (IsDisAnswer (F.held files.old) name.now)
+        (DisRefuses (F.held files.old) name.now) result }
 {
     match read_file(alloc, files, 0, name) {
         Ok(file) => list_file(alloc, file.as_slice()),

@@ -1,9 +1,9 @@
-use Rattle.std.proofs.Common.{◌≡◌, ◌≤◌, drop, false}
-use Rattle.class_pool.proofs.Parameters.{parameters_in}
+use Rattle.std.proofs.Common.{◌≡◌, ◌≤◌, ◌*◌, drop, false}
+use Rattle.class_pool.specs.Code.{words_from}
 use Rattle.class_pool.proofs.known.argument_words.Given as goal
 
 abbrev pub invariant-loop-byte : goal.invariant-loop-byte
 invariant-loop-byte l = record {
-  so_far : parameters_in l.count l.in_name (drop l.byte-index l.desc) ≡ parameters_in 0 false l.desc;
-  few : l.count ≤ l.byte-index;
+  so_far : words_from l.count l.in_array l.in_name (drop l.byte-index l.desc) ≡ words_from 0 false false l.desc;
+  few : l.count ≤ 2 * l.byte-index;
 }

@@ -1,0 +1,1 @@
+class E super java/lang/Object flags 0x0020

@@ -1,0 +1,2 @@
+class E super java/lang/Object flags 0x0020
+metod
