@@ -1,6 +1,9 @@
 pub mod Labels
 pub mod Operations
 pub mod Program
+pub mod Walks
+pub mod Hierarchy
+pub mod Sites
 pub mod Numbers
 pub mod PreludeClasses
 pub mod Typing

@@ -6,6 +6,10 @@ use Rattle.jo_prog.specs.declared.program.Class.{Class}
 abbrev pub object_name : List ℕ
 object_name = codes "java/lang/Object"
 
+-- the number of java/lang/Object, its place among the names below
+abbrev pub object_number : ℕ
+object_number = 0
+
 abbrev pub string_name : List ℕ
 string_name = codes "java/lang/String"
 

@@ -9,4 +9,5 @@ pub mod operations;
 pub mod program;
 pub mod runner;
 pub mod runs;
+pub mod sites;
 pub mod spelling;
