@@ -8,7 +8,7 @@ use Rattle.std.proofs.lemmas.Map.Steps.{length-le_from_distinct_below}
 use Rattle.jo_ids.specs.Path.{Path, stays, goes}
 use Rattle.jo_ids.proofs.PathLemmas.{path_on, path_more}
 use Rattle.std.specs.Option.{option_or}
-use Rattle.jo_prog.specs.Walks.{Leads, IsAcyclic, walk, first_found, IsFirst}
+use Rattle.jo_prog.specs.Walks.{Leads, IsAcyclic, EndsWithin, walk, first_found, IsFirst}
 
 -- ---- items of lists
 
@@ -78,21 +78,23 @@ module _ (next : ℕ → List ℕ) where
         goes a at.0 b at.1 (walk_reaches steps at.0 b at.2)
   ]
 
-  -- no way from a number has that many steps
-  abbrev pub Ends : ℕ → ℕ → Type 0
-  Ends zero a = ⊥
-  Ends (suc steps) a = (b : ℕ) → Leads next a b → Ends steps b
-
-  pub reached_in_walk : (steps : ℕ) {a b : ℕ} → Ends steps a → Path (Leads next) a b → Contains (walk steps next a) b
+  pub reached_in_walk : (steps : ℕ) {a b : ℕ} → EndsWithin next steps a → Path (Leads next) a b → Contains (walk steps next a) b
   reached_in_walk zero ends p = absurd ends
   reached_in_walk (suc steps) ends (stays a) = here a (flat_map (walk steps next) (next a))
   reached_in_walk (suc steps) ends (goes a m b edge p) =
       behind a (flat_map (walk steps next) (next a)) b (to_flat_map (walk steps next) (next a) m b edge (reached_in_walk steps (ends m edge) p))
 
   -- more steps change nothing
-  pub walk_more : (steps a : ℕ) → Ends steps a → walk (suc steps) next a ≡ walk steps next a
+  pub walk_more : (steps a : ℕ) → EndsWithin next steps a → walk (suc steps) next a ≡ walk steps next a
   walk_more zero a ends = absurd ends
   walk_more (suc steps) a ends = ap (λ ys. a ∷ ys) (flat_map_same (walk (suc steps) next) (walk steps next) (next a) (λ b edge. walk_more steps b (ends b edge)))
+
+  pub walk_same : (other : ℕ → List ℕ) → ((a : ℕ) → next a ≡ other a) → (steps a : ℕ) → walk steps next a ≡ walk steps other a
+  walk_same other same zero a = refl
+  walk_same other same (suc steps) a =
+      ap (λ ys. a ∷ ys)
+      (flat_map_same (walk steps next) (walk steps other) (next a) (λ b edge. walk_same other same steps b)
+      ∙ ap (flat_map (walk steps other)) (same a))
 
   -- ---- without a cycle no way has more steps than there are numbers with an edge
 
@@ -120,7 +122,7 @@ module _ (next : ℕ → List ℕ) where
       leads = ((b, edge, stays b), onward xs a b edge way.leads);
     }
 
-    ends_behind : (steps : ℕ) (xs : List ℕ) (a : ℕ) → length xs + steps ≡ suc count → Way count xs a → Ends steps a
+    ends_behind : (steps : ℕ) (xs : List ℕ) (a : ℕ) → length xs + steps ≡ suc count → Way count xs a → EndsWithin next steps a
     ends_behind zero xs a e way =
         let most : length xs ≤ count = length-le_from_distinct_below xs count way.distinct (λ q h. at_recursion (λ x. x < count) xs q way.below (any_of xs q h)) in
         absurd (omega (arith, most, e))
@@ -133,7 +135,7 @@ module _ (next : ℕ → List ℕ) where
         ]
     ends_behind (suc steps) xs a e way = λ b edge. ends_behind steps (a ∷ xs) b (omega (arith, e)) (way_more xs a b edge way)
 
-    pub ends : (a : ℕ) → Ends (suc count) a
+    pub ends : (a : ℕ) → EndsWithin next (suc count) a
     unfolding IsDistinct
     ends a = ends_behind (suc count) [] a (omega arith) (record { distinct = tt; below = tt; leads = tt })
 

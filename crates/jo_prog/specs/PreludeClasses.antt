@@ -20,6 +20,10 @@ string_class = 1
 abbrev pub object_class : Class
 object_class = record { name = object_name; flags = 0x0021; superclass = None; interfaces = []; fields = []; methods = []; operands = [] }
 
+-- the number of java/lang/Thread
+abbrev pub thread_number : ℕ
+thread_number = 3
+
 -- the names of the prelude's classes, all of them in java/lang
 abbrev pub prelude_names : List (List ℕ)
 prelude_names =

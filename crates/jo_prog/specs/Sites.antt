@@ -1,7 +1,7 @@
 -- Where objects are made, and calls: one list that the program alone determines (allocation sites; this project's own choice of them).
 -- Exceptions are those of the JVM Specification SE 8, 6.5.
-use Rattle.std.specs.Prelude.{ℕ, zero, suc, ◌+◌, ◌^◌, Bool, ◌||◌, ◌==◌, nat_lt, if◌then◌else◌, List, [], ◌∷◌, ◌++◌, length, Option, Some, None, Result, Ok, Err}
-use Rattle.std.specs.List.{flat_map}
+use Rattle.std.specs.Prelude.{ℕ, zero, suc, ◌+◌, ◌^◌, Bool, false, ◌||◌, ◌&&◌, ◌==◌, nat_lt, if◌then◌else◌, List, [], ◌∷◌, ◌++◌, length, Option, Some, None, Result, Ok, Err}
+use Rattle.std.specs.List.{flat_map, position_from}
 use Rattle.jo_insn.specs.Instructions.{decoded}
 use Rattle.jo_insn.specs.declared.instructions.Insn.{Insn}
 use Rattle.jo_insn.specs.declared.instructions.Insn.TheVariants.{Plain, Local, Iinc, Push, Pooled, Array, Jump, TableSwitch, LookupSwitch}
@@ -109,3 +109,24 @@ sites_behind number (method ∷ methods) = sites_of_method number method.code ++
 -- all sites: the string constants, the entry's array, then method by method in the order of pcs
 unfoldable pub sites_of : List Method → List Site
 sites_of methods = Text ∷ Args ∷ sites_behind 0 methods
+
+-- ---- the number of a site
+
+-- the allocation or call at a pc of a method
+abbrev pub is_made : ℕ → ℕ → Site → Bool
+is_made m place (Alloc method pc) = method == m && pc == place
+is_made m place (Call method pc) = method == m && pc == place
+is_made m place _ = false
+
+-- the exception of that class there
+abbrev pub is_raised : ℕ → ℕ → ℕ → Site → Bool
+is_raised m place raised (Raise method pc class) = method == m && pc == place && class == raised
+is_raised m place raised _ = false
+
+abbrev pub is_site : ℕ → ℕ → Option ℕ → Site → Bool
+is_site m place None site = is_made m place site
+is_site m place (Some raised) site = is_raised m place raised site
+
+-- its place in the list
+abbrev pub site_of : List Site → ℕ → ℕ → Option ℕ → Option ℕ
+site_of sites method pc raised = position_from (is_site method pc raised) 0 sites

@@ -18,6 +18,11 @@ abbrev pub walk : ℕ → (ℕ → List ℕ) → ℕ → List ℕ
 walk zero next a = []
 walk (suc steps) next a = a ∷ flat_map (walk steps next) (next a)
 
+-- no way from a number has so many steps
+abbrev pub EndsWithin : (ℕ → List ℕ) → ℕ → ℕ → Type 0
+EndsWithin next zero a = ⊥
+EndsWithin next (suc steps) a = (b : ℕ) → Leads next a b → EndsWithin next steps b
+
 -- what a look-up finds first in a list
 abbrev pub first_found : (ℕ → Option ℕ) → List ℕ → Option ℕ
 first_found look [] = None

@@ -1,14 +1,14 @@
 //! The places of a program at which objects are made, and its calls: one list that the program alone determines.
 
-ghost use Rattle.std.specs.Prelude.{◌≡◌, ℕ, ◌+◌, ◌<◌, ◌^◌, ◌++◌, ◌∷◌, [], length, map, OnOk, IfOk};
+ghost use Rattle.std.specs.Prelude.{◌≡◌, ◌≤◌, ◌<◌, ◌^◌, ◌++◌, length, OnOk, IfOk};
 ghost use Rattle.jo_prog.specs.Sites;
-ghost use Rattle.jo_prog.specs.Sites.{opcode_of, class_raised, may_raise, causes, insns_in, made_at, raised_among, insn_sites, sites_among, sites_of_method, sites_behind, sites_of};
+ghost use Rattle.jo_prog.specs.Sites.{opcode_of, class_raised, may_raise, insns_in, made_at, raised_among, insn_sites, sites_among, sites_of_method, sites_of};
 
 use crate::lists::add;
 use crate::program::{Code, Method};
-use jo_ids::{ClassId, Id, List, Memory, MethodId};
+use jo_ids::{ClassId, Id, List, Memory, MethodId, SiteId};
 use jo_insn::{Insn, Placed, decode};
-use std::alloc::Global;
+use std::alloc::{AllocError, Global};
 
 /// How many bytes code has at most.
 const LONGEST_CODE: usize = 65_535;
@@ -204,17 +204,77 @@ fn add_code(
     add_insns(sites, method, insns.as_slice())
 }
 
-/// The sites of a program with these methods.
+/// The sites of a program with these methods. More than 2^32 methods have no numbers: for them memory is said to be wanting.
 #[tactic(auto, unfolding(crate::specs::Sites::sites_of))]
 pub fn sites_of(alloc: Global, methods: &[Method]) -> Result<List<Site>, Memory>
-    requires { length methods.now < 2 ^ 32 }
     ensures { IfOk result (λ sites. sites ≡ sites_of methods.now) }
 {
     let mut sites = List::new(alloc);
     add(&mut sites, Site::Text)?;
     add(&mut sites, Site::Args)?;
     for (number, method) in methods.iter().enumerate() {
-        add_code(alloc, &mut sites, Id::of(number as u32), &method.code)?;
+        let Ok(number) = u32::try_from(number) else {
+            return Err(AllocError);
+        };
+        add_code(alloc, &mut sites, Id::of(number), &method.code)?;
     }
     Ok(sites)
+}
+
+/// Whether the site is the allocation or call at that pc.
+fn is_made(site: &Site, at: MethodId, place: u32) -> bool
+    ensures { result ≡ Sites.is_made at place site.now }
+{
+    match site {
+        Site::Alloc { method, pc } => *method == at && *pc == place,
+        Site::Call { method, pc } => *method == at && *pc == place,
+        _ => false,
+    }
+}
+
+/// Whether the site is the exception of that class at that pc.
+fn is_raised(site: &Site, at: MethodId, place: u32, raised: ClassId) -> bool
+    ensures { result ≡ Sites.is_raised at place raised site.now }
+{
+    match site {
+        Site::Raise { method, pc, class } => *method == at && *pc == place && *class == raised,
+        _ => false,
+    }
+}
+
+/// The number of the allocation or call at that pc of a method. None where there is none.
+pub fn site_made(sites: &[Site], method: MethodId, pc: u32) -> Option<SiteId>
+    requires { length sites.now ≤ 2 ^ 32 }
+    ensures { result ≡ Sites.site_of sites.now method pc None }
+{
+    for (number, site) in sites.iter().enumerate() {
+        if is_made(site, method, pc) {
+            return Some(Id::of(number as u32));
+        }
+    }
+    None
+}
+
+/// The number of the exception of that class at that pc of a method. None where there is none.
+pub fn site_raised(sites: &[Site], method: MethodId, pc: u32, class: ClassId) -> Option<SiteId>
+    requires { length sites.now ≤ 2 ^ 32 }
+    ensures { result ≡ Sites.site_of sites.now method pc (Some class) }
+{
+    for (number, site) in sites.iter().enumerate() {
+        if is_raised(site, method, pc, class) {
+            return Some(Id::of(number as u32));
+        }
+    }
+    None
+}
+
+/// The number of the allocation or call at that pc of a method, or of the exception of that class there. None where there is none.
+pub fn site_of(sites: &[Site], method: MethodId, pc: u32, raised: Option<ClassId>) -> Option<SiteId>
+    requires { length sites.now ≤ 2 ^ 32 }
+    ensures { result ≡ Sites.site_of sites.now method pc raised }
+{
+    match raised {
+        None => site_made(sites, method, pc),
+        Some(class) => site_raised(sites, method, pc, class),
+    }
 }
