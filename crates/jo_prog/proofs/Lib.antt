@@ -9,3 +9,4 @@ pub mod TypingPaths
 pub mod WalkLemmas
 pub mod HierarchyLemmas
 pub mod InsnSteps
+pub mod ArrayLemmas

@@ -42,6 +42,9 @@ abbrev pub is_object : Base → Bool
 is_object (OfName name) = bytes_eq name object_name
 is_object _ = false
 
+abbrev pub array_of : ℕ → Base → FieldDesc
+array_of dims base = record { dims = dims; base = base }
+
 -- Taking the element types as long as both are arrays: their bases are left, or an array and a base, which must be java/lang/Object,
 -- or a base and an array, which never fit.
 abbrev pub array_fits : Program → FieldDesc → FieldDesc → Bool

@@ -1,5 +1,5 @@
 //! Laws of the definitions. Each function is empty: what it ensures is the law.
-ghost use Rattle.std.specs.Prelude.{◌≡◌, ℕ, pos, List, [], ◌∷◌, replicate, true, Some, None, slice_get};
+ghost use Rattle.std.specs.Prelude.{◌≡◌, ℕ, suc, false, pos, List, [], ◌∷◌, replicate, true, Some, None, slice_get};
 ghost use Rattle.std.specs.List.{Contains, flat_map};
 ghost use Rattle.std.specs.Option.{option_or};
 ghost use Rattle.jo_prog.specs.Constants.{texts_of, string_constants, string_address};
@@ -8,6 +8,8 @@ ghost use Rattle.jo_prog.specs.Hierarchy.{superclass_of, interfaces_of, parents_
 ghost use Rattle.jo_prog.specs.Labels.{flows_by};
 ghost use Rattle.jo_prog.specs.Machine.{string_object, start};
 ghost use Rattle.jo_prog.specs.Runs.{run, seen};
+ghost use Rattle.jo_prog.specs.Types.{array_of, array_fits, base_fits, is_object};
+ghost use Rattle.jo_text.specs.declared.descriptors.Base.{Base};
 ghost use Rattle.jo_prog.specs.Walks.{first_found, IsFirst};
 ghost use Rattle.jo_prog.specs.Worked.{worked_program, worked_labels, worked_inputs};
 ghost use Rattle.jo_prog.specs.declared.labels.Labels.{Labels};
@@ -57,4 +59,13 @@ pub fn first_members()
     ensures no_field { (program : Program) (c k : ℕ) (name desc : List ℕ) → resolve_field program c name desc ≡ None → Contains (supertypes program c) k → own_field program name desc k ≡ None }
     ensures instance { (program : Program) (c m : ℕ) (name desc : List ℕ) → search_from program c name desc ≡ Some m → IsFirst (own_instance_method program name desc) (superclasses program c) m }
     ensures no_instance { (program : Program) (c k : ℕ) (name desc : List ℕ) → search_from program c name desc ≡ None → Contains (superclasses program c) k → own_instance_method program name desc k ≡ None }
+{}
+
+/// An array is a subtype of another exactly where its element type is one of the other's: both may be arrays again, or of the
+/// two bases one is left under no more dimensions.
+pub fn arrays_fit_by_elements()
+    ensures elements { (program : Program) (a b : Base) (m n : ℕ) → array_fits program (array_of (suc m) a) (array_of (suc n) b) ≡ array_fits program (array_of m a) (array_of n b) }
+    ensures bases { (program : Program) (a b : Base) → array_fits program (array_of 0 a) (array_of 0 b) ≡ base_fits program a b }
+    ensures array { (program : Program) (a b : Base) (m : ℕ) → array_fits program (array_of (suc m) a) (array_of 0 b) ≡ is_object b }
+    ensures no_array { (program : Program) (a b : Base) (n : ℕ) → array_fits program (array_of 0 a) (array_of (suc n) b) ≡ false }
 {}
