@@ -1,6 +1,6 @@
 -- Where objects are made, and calls: one list that the program alone determines (allocation sites; this project's own choice of them).
 -- Exceptions are those of the JVM Specification SE 8, 6.5.
-use Rattle.std.specs.Prelude.{ℕ, zero, suc, ◌+◌, ◌^◌, Bool, false, ◌||◌, ◌&&◌, ◌==◌, nat_lt, if◌then◌else◌, List, [], ◌∷◌, ◌++◌, length, Option, Some, None, Result, Ok, Err}
+use Rattle.std.specs.Prelude.{ℕ, zero, suc, ◌+◌, ◌^◌, Bool, false, ◌||◌, ◌&&◌, ◌==◌, nat_lt, if◌then◌else◌, List, [], ◌∷◌, ◌++◌, length, Option, Some, None, Result, Ok, Err, codes}
 use Rattle.std.specs.List.{flat_map, position_from}
 use Rattle.jo_insn.specs.Instructions.{decoded}
 use Rattle.jo_insn.specs.declared.instructions.Insn.{Insn}
@@ -38,6 +38,17 @@ class_raised NegativeLength = 13
 class_raised BadIndex = 18
 class_raised SecondStart = 19
 class_raised MissingInterface = 22
+
+-- and its name
+abbrev pub name_raised : Cause → List ℕ
+name_raised ZeroDivisor = codes "java/lang/ArithmeticException"
+name_raised NullBase = codes "java/lang/NullPointerException"
+name_raised FailingCast = codes "java/lang/ClassCastException"
+name_raised WrongElement = codes "java/lang/ArrayStoreException"
+name_raised NegativeLength = codes "java/lang/NegativeArraySizeException"
+name_raised BadIndex = codes "java/lang/ArrayIndexOutOfBoundsException"
+name_raised SecondStart = codes "java/lang/IllegalThreadStateException"
+name_raised MissingInterface = codes "java/lang/IncompatibleClassChangeError"
 
 -- iaload, aaload to saload, iastore, aastore to sastore
 abbrev pub is_array_access : ℕ → Bool

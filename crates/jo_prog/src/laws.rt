@@ -1,5 +1,5 @@
 //! Laws of the definitions. Each function is empty: what it ensures is the law.
-ghost use Rattle.std.specs.Prelude.{◌≡◌, ℕ, suc, false, pos, List, [], ◌∷◌, replicate, true, Some, None, slice_get};
+ghost use Rattle.std.specs.Prelude.{◌≡◌, ℕ, suc, false, pos, List, [], ◌∷◌, replicate, true, Some, None, slice_get, map, codes};
 ghost use Rattle.std.specs.List.{Contains, flat_map};
 ghost use Rattle.std.specs.Option.{option_or};
 ghost use Rattle.jo_prog.specs.Constants.{texts_of, string_constants, string_address};
@@ -8,6 +8,9 @@ ghost use Rattle.jo_prog.specs.Hierarchy.{superclass_of, interfaces_of, parents_
 ghost use Rattle.jo_prog.specs.Labels.{flows_by};
 ghost use Rattle.jo_prog.specs.Machine.{string_object, start};
 ghost use Rattle.jo_prog.specs.Runs.{run, seen};
+ghost use Rattle.jo_prog.specs.PreludeClasses.{object_name, object_number, string_name, string_class, thread_number, prelude_names};
+ghost use Rattle.jo_prog.specs.Sites.{causes, class_raised, name_raised};
+ghost use Rattle.jo_prog.specs.declared.sites.Cause.{Cause};
 ghost use Rattle.jo_prog.specs.Types.{array_of, array_fits, base_fits, is_object};
 ghost use Rattle.jo_text.specs.declared.descriptors.Base.{Base};
 ghost use Rattle.jo_prog.specs.Walks.{first_found, IsFirst};
@@ -68,4 +71,13 @@ pub fn arrays_fit_by_elements()
     ensures bases { (program : Program) (a b : Base) → array_fits program (array_of 0 a) (array_of 0 b) ≡ base_fits program a b }
     ensures array { (program : Program) (a b : Base) (m : ℕ) → array_fits program (array_of (suc m) a) (array_of 0 b) ≡ is_object b }
     ensures no_array { (program : Program) (a b : Base) (n : ℕ) → array_fits program (array_of 0 a) (array_of (suc n) b) ≡ false }
+{}
+
+/// The numbers of the prelude's classes are their places among its names, and the causes stand in the order of these numbers.
+pub fn prelude_numbers()
+    ensures raised { (cause : Cause) → slice_get prelude_names (class_raised cause) ≡ Some (name_raised cause) }
+    ensures object { slice_get prelude_names object_number ≡ Some object_name }
+    ensures string { slice_get prelude_names string_class ≡ Some string_name }
+    ensures thread { slice_get prelude_names thread_number ≡ Some (codes "java/lang/Thread") }
+    ensures order { map class_raised causes ≡ 8 ∷ 9 ∷ 10 ∷ 12 ∷ 13 ∷ 18 ∷ 19 ∷ 22 ∷ [] }
 {}
