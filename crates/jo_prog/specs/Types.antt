@@ -1,6 +1,6 @@
 -- Subtypes among class and array types (JVM Specification SE 8, 4.10.1.2; that an array is a subtype of no interface is this
 -- project's own rule).
-use Rattle.std.specs.Prelude.{ℕ, Bool, false, ◌==◌, nat_lt, if◌then◌else◌, List, Option, Some, None}
+use Rattle.std.specs.Prelude.{ℕ, Bool, false, ◌==◌, nat_lt, if◌then◌else◌, List, Option, Some}
 use Rattle.std.specs.List.{position_from}
 use Rattle.std.specs.Str.{bytes_eq}
 use Rattle.jo_text.specs.declared.descriptors.FieldDesc.{FieldDesc}
