@@ -44,11 +44,13 @@ parent_list class = class.interfaces ++ option_to_list class.superclass
 
 -- where methods are looked for, by orders of superclasses and of interfaces
 abbrev pub methods_by : List (List ℕ) → List (List ℕ) → List ℕ → List ℕ
-methods_by interfaces walks superclasses = superclasses ++ flat_map (λ c. flat_map (edges walks) (edges interfaces c)) superclasses
+methods_by interfaces walks superclasses =
+    superclasses ++ flat_map (λ c. flat_map (edges walks) (edges interfaces c)) superclasses
 
 -- for each order of superclasses one that finds the same
 abbrev pub AreMethodsBy : List (List ℕ) → List (List ℕ) → List (List ℕ) → List (List ℕ) → Type 0
-AreMethodsBy interfaces walks superclasses orders = AllZip (λ above order. SameFirst order (methods_by interfaces walks above)) superclasses orders
+AreMethodsBy interfaces walks superclasses orders =
+    AllZip (λ above order. SameFirst order (methods_by interfaces walks above)) superclasses orders
 
 -- the superclass and the interfaces of a class are below a count
 abbrev pub IsInside : ℕ → Class → Type 0

@@ -34,7 +34,8 @@ AreMadeBy graph orders steps = (a : ℕ) → a < length graph → EndsWithin (ed
 -- the order of a number, where those of all next to it are made
 abbrev pub IsOrderOf : ℕ → List ℕ → List (List ℕ) → Option (List ℕ) → Type 0
 IsOrderOf number next orders None = (c : ℕ) × Contains next c × (IsMade orders c → ⊥)
-IsOrderOf number next orders (Some order) = AllByRecursion (IsMade orders) next × SameFirst order (number ∷ flat_map (edges orders) next)
+IsOrderOf number next orders (Some order) =
+    AllByRecursion (IsMade orders) next × SameFirst order (number ∷ flat_map (edges orders) next)
 
 pub record Visits (graph old new : List (List ℕ)) (number : ℕ) : Type 0 where
   pub right : AreRight graph new
@@ -54,4 +55,5 @@ pub record AreWalks (graph orders : List (List ℕ)) : Type 0 where
 pub record VisitsUpTo (graph old new : List (List ℕ)) (number : ℕ) : Type 0 where
   pub right : AreRight graph new
   pub kept : (a : ℕ) → IsMade old a → IsMade new a
-  pub more : (steps : ℕ) → AreMadeBy graph old steps → (a : ℕ) → a < number → EndsWithin (edges graph) (suc steps) a → IsMade new a
+  pub more : (steps : ℕ) → AreMadeBy graph old steps → (a : ℕ) → a < number
+      → EndsWithin (edges graph) (suc steps) a → IsMade new a

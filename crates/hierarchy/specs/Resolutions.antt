@@ -25,7 +25,9 @@ field_of program (OfArray array) name desc = None
 
 abbrev pub member_of : Program → TypeRef → List ℕ → List ℕ → Option Member
 member_of program owner name desc =
-    if is_of_method desc then option_map (λ method. Method method) (resolve_method program (receiver_class owner) name desc) else field_of program owner name desc
+    if is_of_method desc
+    then option_map (λ method. Method method) (resolve_method program (receiver_class owner) name desc)
+    else field_of program owner name desc
 
 abbrev pub resolved_operand : Program → Operand → Option Member
 resolved_operand program (OfMember ref) = member_of program ref.owner ref.name ref.desc
@@ -33,7 +35,9 @@ resolved_operand program _ = None
 
 -- what the operand with that index in the pool of a class resolves to
 abbrev pub resolved_at : Program → ℕ → ℕ → Option Member
-resolved_at program c index = option_and_then (resolved_operand program) (option_and_then (λ (class : Class). slice_get class.operands index) (class_at program c))
+resolved_at program c index =
+    option_and_then (resolved_operand program)
+    (option_and_then (λ (class : Class). slice_get class.operands index) (class_at program c))
 
 abbrev pub resolved_of_class : Program → Class → List (Option Member)
 resolved_of_class program class = map (resolved_operand program) class.operands

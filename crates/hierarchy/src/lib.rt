@@ -365,3 +365,6 @@ impl Hierarchy {
         }
     }
 }
+
+#[cfg(test)]
+mod tests;

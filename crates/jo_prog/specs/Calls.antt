@@ -17,7 +17,8 @@ use Rattle.jo_prog.specs.Hierarchy.{search_from, select}
 
 -- one of java/lang/Thread that the machine runs itself
 abbrev pub is_machine_method : List ℕ → Method → Bool
-is_machine_method name method = method.class == thread_number && bytes_eq method.name name && bytes_eq method.desc (codes "()V")
+is_machine_method name method =
+    method.class == thread_number && bytes_eq method.name name && bytes_eq method.desc (codes "()V")
 
 -- an abstract method is nothing that can be taken
 abbrev pub taken_as : ℕ → Method → Taken
@@ -47,7 +48,8 @@ superclass_at program c = option_and_then (λ (class : Class). class.superclass)
 
 -- `<init>`, a private method or one of the current class is taken as it was resolved
 abbrev pub is_taken_as_resolved : ℕ → Method → Bool
-is_taken_as_resolved current method = bytes_eq method.name (codes "<init>") || has_flag private_flag method.flags || method.class == current
+is_taken_as_resolved current method =
+    bytes_eq method.name (codes "<init>") || has_flag private_flag method.flags || method.class == current
 
 -- for invokespecial: else the search begins at the direct superclass of the current class
 abbrev pub special_in : Program → ℕ → ℕ → Option Method → Option ℕ

@@ -68,14 +68,17 @@ is_field name desc (Some field) = bytes_eq field.name name && bytes_eq field.des
 
 abbrev pub first_field : Program → List ℕ → List ℕ → List ℕ → Option ℕ
 first_field program name desc [] = None
-first_field program name desc (f ∷ fs) = if is_field name desc (slice_get program.fields f) then Some f else first_field program name desc fs
+first_field program name desc (f ∷ fs) =
+    if is_field name desc (slice_get program.fields f) then Some f else first_field program name desc fs
 
 -- of two members of one class with one name and descriptor only the first counts
 abbrev pub own_method : Program → List ℕ → List ℕ → ℕ → Option ℕ
-own_method program name desc c = option_and_then (λ (class : Class). first_with program name desc class.methods) (class_at program c)
+own_method program name desc c =
+    option_and_then (λ (class : Class). first_with program name desc class.methods) (class_at program c)
 
 abbrev pub own_field : Program → List ℕ → List ℕ → ℕ → Option ℕ
-own_field program name desc c = option_and_then (λ (class : Class). first_field program name desc class.fields) (class_at program c)
+own_field program name desc c =
+    option_and_then (λ (class : Class). first_field program name desc class.fields) (class_at program c)
 
 -- ---- resolution (5.4.3.2 to 5.4.3.4)
 
@@ -119,4 +122,5 @@ search_from program c name desc = first_found (own_instance_method program name 
 
 -- the method that a class selects for one that was resolved
 abbrev pub select : Program → ℕ → ℕ → Option ℕ
-select program receiver m = option_and_then (λ (method : Method). search_from program receiver method.name method.desc) (method_at program m)
+select program receiver m =
+    option_and_then (λ (method : Method). search_from program receiver method.name method.desc) (method_at program m)

@@ -69,7 +69,8 @@ may_raise MissingInterface op = op == 185
 
 -- in the order of the numbers of their classes
 abbrev pub causes : List Cause
-causes = ZeroDivisor ∷ NullBase ∷ FailingCast ∷ WrongElement ∷ NegativeLength ∷ BadIndex ∷ SecondStart ∷ MissingInterface ∷ []
+causes =
+    ZeroDivisor ∷ NullBase ∷ FailingCast ∷ WrongElement ∷ NegativeLength ∷ BadIndex ∷ SecondStart ∷ MissingInterface ∷ []
 
 -- ---- the instructions of some code (4.9.1)
 
@@ -98,11 +99,13 @@ made_at method pc op =
 abbrev pub raised_among : ℕ → ℕ → ℕ → List Cause → List Site
 raised_among method pc op [] = []
 raised_among method pc op (cause ∷ more) =
-    if may_raise cause op then Raise method pc (class_raised cause) ∷ raised_among method pc op more else raised_among method pc op more
+    if may_raise cause op then Raise method pc (class_raised cause) ∷ raised_among method pc op more
+    else raised_among method pc op more
 
 -- the allocation or call before the exceptions, these by class
 abbrev pub insn_sites : ℕ → Placed → List Site
-insn_sites method placed = made_at method placed.pc (opcode_of placed.insn) ++ raised_among method placed.pc (opcode_of placed.insn) causes
+insn_sites method placed =
+    made_at method placed.pc (opcode_of placed.insn) ++ raised_among method placed.pc (opcode_of placed.insn) causes
 
 abbrev pub sites_among : ℕ → List Placed → List Site
 sites_among method insns = flat_map (insn_sites method) insns
@@ -110,7 +113,8 @@ sites_among method insns = flat_map (insn_sites method) insns
 -- code has fewer than 65,536 bytes (4.7.3), so longer code has no instructions
 abbrev pub sites_of_method : ℕ → Option Code → List Site
 sites_of_method method None = []
-sites_of_method method (Some code) = if nat_lt (length code.bytes) (2 ^ 16) then sites_among method (insns_in code.bytes) else []
+sites_of_method method (Some code) =
+    if nat_lt (length code.bytes) (2 ^ 16) then sites_among method (insns_in code.bytes) else []
 
 -- those of the methods from this number on
 abbrev pub sites_behind : ℕ → List Method → List Site

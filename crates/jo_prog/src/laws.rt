@@ -43,31 +43,44 @@ pub fn worked_run()
 /// A class is a subtype of another exactly where superclasses and interfaces lead to it.
 pub fn subtype_is_path()
     ensures along { (program : Program) (a b : ℕ) → is_subtype program a b ≡ true → Subtype program a b }
-    ensures every { (program : Program) → HasNoCycle program → (a b : ℕ) → Subtype program a b → is_subtype program a b ≡ true }
+    ensures every { (program : Program) → HasNoCycle program → (a b : ℕ) → Subtype program a b
+        → is_subtype program a b ≡ true }
 {}
 
 /// The orders in which members are looked for follow their rules, with no bound on their lengths, where no class is above itself.
 pub fn search_orders()
-    ensures superclasses { (program : Program) → HasNoCycle program → (c : ℕ) → superclasses program c ≡ c ∷ flat_map (superclasses program) (superclass_of program c) }
-    ensures superinterfaces { (program : Program) → HasNoCycle program → (c : ℕ) → superinterfaces program c ≡ flat_map (λ i. i ∷ superinterfaces program i) (interfaces_of program c) }
-    ensures supertypes { (program : Program) → HasNoCycle program → (c : ℕ) → supertypes program c ≡ c ∷ flat_map (supertypes program) (parents_of program c) }
-    ensures field { (program : Program) → HasNoCycle program → (c : ℕ) (name desc : List ℕ) → resolve_field program c name desc ≡ option_or (own_field program name desc c) (first_found (λ k. resolve_field program k name desc) (parents_of program c)) }
+    ensures superclasses { (program : Program) → HasNoCycle program → (c : ℕ)
+        → superclasses program c ≡ c ∷ flat_map (superclasses program) (superclass_of program c) }
+    ensures superinterfaces { (program : Program) → HasNoCycle program → (c : ℕ)
+        → superinterfaces program c ≡ flat_map (λ i. i ∷ superinterfaces program i) (interfaces_of program c) }
+    ensures supertypes { (program : Program) → HasNoCycle program → (c : ℕ)
+        → supertypes program c ≡ c ∷ flat_map (supertypes program) (parents_of program c) }
+    ensures field { (program : Program) → HasNoCycle program → (c : ℕ) (name desc : List ℕ)
+        → resolve_field program c name desc
+        ≡ option_or (own_field program name desc c) (first_found (λ k. resolve_field program k name desc) (parents_of program c)) }
 {}
 
 /// What is resolved or selected is the first in its order; nothing is, only where no class of the order has one.
 pub fn first_members()
-    ensures method { (program : Program) (c m : ℕ) (name desc : List ℕ) → resolve_method program c name desc ≡ Some m → IsFirst (own_method program name desc) (method_order program c) m }
-    ensures no_method { (program : Program) (c k : ℕ) (name desc : List ℕ) → resolve_method program c name desc ≡ None → Contains (method_order program c) k → own_method program name desc k ≡ None }
-    ensures field { (program : Program) (c f : ℕ) (name desc : List ℕ) → resolve_field program c name desc ≡ Some f → IsFirst (own_field program name desc) (supertypes program c) f }
-    ensures no_field { (program : Program) (c k : ℕ) (name desc : List ℕ) → resolve_field program c name desc ≡ None → Contains (supertypes program c) k → own_field program name desc k ≡ None }
-    ensures instance { (program : Program) (c m : ℕ) (name desc : List ℕ) → search_from program c name desc ≡ Some m → IsFirst (own_instance_method program name desc) (superclasses program c) m }
-    ensures no_instance { (program : Program) (c k : ℕ) (name desc : List ℕ) → search_from program c name desc ≡ None → Contains (superclasses program c) k → own_instance_method program name desc k ≡ None }
+    ensures method { (program : Program) (c m : ℕ) (name desc : List ℕ) → resolve_method program c name desc ≡ Some m
+        → IsFirst (own_method program name desc) (method_order program c) m }
+    ensures no_method { (program : Program) (c k : ℕ) (name desc : List ℕ) → resolve_method program c name desc ≡ None
+        → Contains (method_order program c) k → own_method program name desc k ≡ None }
+    ensures field { (program : Program) (c f : ℕ) (name desc : List ℕ) → resolve_field program c name desc ≡ Some f
+        → IsFirst (own_field program name desc) (supertypes program c) f }
+    ensures no_field { (program : Program) (c k : ℕ) (name desc : List ℕ) → resolve_field program c name desc ≡ None
+        → Contains (supertypes program c) k → own_field program name desc k ≡ None }
+    ensures instance { (program : Program) (c m : ℕ) (name desc : List ℕ) → search_from program c name desc ≡ Some m
+        → IsFirst (own_instance_method program name desc) (superclasses program c) m }
+    ensures no_instance { (program : Program) (c k : ℕ) (name desc : List ℕ) → search_from program c name desc ≡ None
+        → Contains (superclasses program c) k → own_instance_method program name desc k ≡ None }
 {}
 
 /// An array is a subtype of another exactly where its element type is one of the other's: both may be arrays again, or of the
 /// two bases one is left under no more dimensions.
 pub fn arrays_fit_by_elements()
-    ensures elements { (program : Program) (a b : Base) (m n : ℕ) → array_fits program (array_of (suc m) a) (array_of (suc n) b) ≡ array_fits program (array_of m a) (array_of n b) }
+    ensures elements { (program : Program) (a b : Base) (m n : ℕ)
+        → array_fits program (array_of (suc m) a) (array_of (suc n) b) ≡ array_fits program (array_of m a) (array_of n b) }
     ensures bases { (program : Program) (a b : Base) → array_fits program (array_of 0 a) (array_of 0 b) ≡ base_fits program a b }
     ensures array { (program : Program) (a b : Base) (m : ℕ) → array_fits program (array_of (suc m) a) (array_of 0 b) ≡ is_object b }
     ensures no_array { (program : Program) (a b : Base) (n : ℕ) → array_fits program (array_of 0 a) (array_of (suc n) b) ≡ false }
