@@ -1,10 +1,10 @@
 -- Orders that find the same first.
 use Rattle.std.proofs.Common.{◌≡◌, ◌∙◌, ℕ, suc, ◌+◌, ◌<◌, ◌≤◌, List, [], ◌∷◌, ◌++◌, length, get_or, set, drop, Option, Some, None, refl, sym, ap, subst, arith, inl, inr, length-set, append_assoc, add-one, drop-cons}
-use Rattle.std.specs.List.{Contains, flat_map, AllByRecursion}
+use Rattle.std.specs.List.{Contains, flat_map}
 use Rattle.std.specs.Option.{option_or}
 use Rattle.std.proofs.lemmas.Bool.{cases_eq, cases_lt}
 use Rattle.std.proofs.lemmas.List.{get_or-set_same, get_or-set_other, get_or_past, append-nil}
-use Rattle.jo_prog.specs.Walks.{Leads, IsAcyclic, EndsWithin, walk, first_found}
+use Rattle.jo_prog.specs.Walks.{Leads, IsAcyclic, EndsWithin, first_found}
 use Rattle.jo_prog.proofs.WalkLemmas.{here, behind, none_there, at_recursion, none_found, found_in_two, found_in_each, walk_unfolds, ends}
 use Rattle.hierarchy.specs.Orders.{SameFirst, edges, LeadsInside, walk_from, IsMade, AreRight, AreMadeBy, IsOrderOf, Visits, VisitsUpTo, GoesOn, AreWalks}
 

@@ -1,5 +1,5 @@
 -- Superclasses and interfaces that are classes of the program.
-use Rattle.std.proofs.Common.{◌≡◌, ◌∙◌, ◌↔◌, ℕ, zero, suc, ◌+◌, ◌<◌, ◌≤◌, List, [], ◌∷◌, ◌++◌, length, take, drop, get_or, Option, Some, None, refl, sym, ap, subst, arith, inl, inr}
+use Rattle.std.proofs.Common.{◌≡◌, ◌∙◌, ◌↔◌, ℕ, zero, suc, ◌+◌, ◌<◌, ◌≤◌, List, [], ◌∷◌, ◌++◌, length, take, drop, get_or, Option, Some, None, refl, sym, subst, inl, inr}
 use Rattle.std.specs.Prelude.{slice_get}
 use Rattle.std.specs.List.{Contains, AllByRecursion}
 use Rattle.std.specs.Option.{option_to_list}
@@ -9,9 +9,9 @@ use Rattle.std.proofs.lemmas.Option.{none-some, same_Some}
 use Rattle.jo_prog.specs.declared.program.Program.{Program}
 use Rattle.jo_prog.specs.declared.program.Class.{Class}
 use Rattle.jo_prog.specs.Program.{class_at}
-use Rattle.jo_prog.specs.Hierarchy.{parents_of, interfaces_in, superclass_in}
+use Rattle.jo_prog.specs.Hierarchy.{interfaces_in, superclass_in}
 use Rattle.jo_prog.proofs.WalkLemmas.{here, head_or_behind, none_there, at_recursion}
-use Rattle.hierarchy.specs.Hierarchies.{HasItsParents, IsInside, parent_list}
+use Rattle.hierarchy.specs.Hierarchies.{HasItsParents, IsInside}
 use Rattle.hierarchy.proofs.OrderLemmas.{drop_here}
 
 -- ---- in loops

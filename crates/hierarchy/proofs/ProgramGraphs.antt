@@ -1,10 +1,9 @@
 -- The graphs of a program's superclasses and interfaces, as lists.
-use Rattle.std.proofs.Common.{◌≡◌, ◌∙◌, ℕ, zero, suc, ◌<◌, List, [], ◌∷◌, ◌++◌, length, map, get_or, Option, Some, None, refl, sym, ap, subst, arith}
+use Rattle.std.proofs.Common.{◌≡◌, ◌∙◌, ℕ, zero, suc, ◌<◌, List, [], ◌∷◌, ◌++◌, length, map, Option, Some, None, refl, sym, ap, subst, arith}
 use Rattle.std.specs.Prelude.{slice_get}
-use Rattle.std.specs.List.{Contains, flat_map, AllZip}
+use Rattle.std.specs.List.{Contains, flat_map}
 use Rattle.std.proofs.lemmas.List.{length-map}
 use Rattle.std.proofs.lemmas.List.Elements.{AllZip-get_or, length_all_zip}
-use Rattle.jo_ids.specs.Path.{Path}
 use Rattle.jo_ids.proofs.PathLemmas.{path_in}
 use Rattle.jo_prog.specs.declared.program.Program.{Program}
 use Rattle.jo_prog.specs.declared.program.Class.{Class}
@@ -13,11 +12,11 @@ use Rattle.jo_prog.specs.Walks.{Leads, IsAcyclic, walk, first_found}
 use Rattle.jo_prog.specs.Hierarchy.{superclass_of, interfaces_of, parents_of, superclass_in, interfaces_in, IsAboveItself, HasNoCycle, most_steps, supertypes, superclasses, superinterfaces, method_order}
 use Rattle.jo_prog.proofs.WalkLemmas.{walk_same}
 use Rattle.jo_prog.proofs.HierarchyLemmas.{from_interfaces, from_superclass, no_interface_cycle, no_superclass_cycle}
-use Rattle.hierarchy.specs.Orders.{SameFirst, edges, LeadsInside, walk_from, AreWalks}
+use Rattle.hierarchy.specs.Orders.{SameFirst, edges, LeadsInside, AreWalks}
 use Rattle.hierarchy.specs.declared.HierarchyFault.TheVariants.{Cyclic}
 use Rattle.hierarchy.specs.Cycles.{IsOnCycle, IsFirstOnCycle}
 use Rattle.hierarchy.specs.Hierarchies.{HasItsParents, KeepsOrder, IsFaultOf, superclass_list, interface_list, parent_list, methods_by, AreMethodsBy}
-use Rattle.hierarchy.proofs.OrderLemmas.{same_then, same_in_two, same_flat_map, same_each, from_inside}
+use Rattle.hierarchy.proofs.OrderLemmas.{same_then, same_in_two, same_flat_map, same_each}
 
 -- ---- a list for each class
 

@@ -1,5 +1,5 @@
 -- What a hierarchy keeps of a program, and which class is refused.
-use Rattle.std.specs.Prelude.{◌≡◌, ℕ, ◌<◌, List, [], ◌∷◌, ◌++◌, length, Option, Some, None}
+use Rattle.std.specs.Prelude.{◌≡◌, ℕ, ◌<◌, List, ◌++◌, length}
 use Rattle.std.specs.List.{Contains, flat_map, AllZip}
 use Rattle.std.specs.Option.{option_to_list}
 use Rattle.jo_prog.specs.declared.program.Program.{Program}

@@ -1,7 +1,7 @@
 -- Orders of classes in which each look-up finds first what it finds in a walk (this project's own).
 use Rattle.std.specs.Prelude.{◌≡◌, ℕ, suc, ◌<◌, List, [], ◌∷◌, length, Option, Some, None, slice_index_or}
 use Rattle.std.specs.List.{Contains, AllByRecursion, flat_map}
-use Rattle.jo_prog.specs.Walks.{Leads, IsAcyclic, EndsWithin, walk, first_found}
+use Rattle.jo_prog.specs.Walks.{Leads, EndsWithin, walk, first_found}
 
 -- each look-up finds the same in both
 abbrev pub SameFirst : List ℕ → List ℕ → Type 0

@@ -1,4 +1,4 @@
-use Rattle.std.proofs.Common.{◌<◌, ◌^◌, List, ℕ, length, subst, arith}
+use Rattle.std.proofs.Common.{List, ℕ, subst, arith}
 use Rattle.hierarchy.specs.Hierarchies.{interface_list, AreMethodsBy}
 use Rattle.hierarchy.proofs.ProgramGraphs.{interfaces_lead_inside, interfaces_acyclic, long_as_classes, methods_are_kept}
 use Rattle.hierarchy.proofs.method_orders_of.Goals as goal

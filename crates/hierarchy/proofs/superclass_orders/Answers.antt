@@ -1,4 +1,4 @@
-use Rattle.std.proofs.Common.{◌<◌, ◌^◌, length, arith}
+use Rattle.std.proofs.Common.{arith}
 use Rattle.hierarchy.specs.Hierarchies.{superclass_list}
 use Rattle.hierarchy.proofs.ProgramGraphs.{superclasses_lead_inside, superclasses_acyclic, long_as_classes, superclasses_are_kept}
 use Rattle.hierarchy.proofs.superclass_orders.Goals as goal

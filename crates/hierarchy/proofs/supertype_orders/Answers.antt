@@ -1,4 +1,4 @@
-use Rattle.std.proofs.Common.{◌<◌, ◌^◌, length, arith}
+use Rattle.std.proofs.Common.{arith}
 use Rattle.hierarchy.specs.Hierarchies.{parent_list}
 use Rattle.hierarchy.proofs.ProgramGraphs.{parents_lead_inside, parents_acyclic, long_as_classes, supertypes_are_kept}
 use Rattle.hierarchy.proofs.supertype_orders.Goals as goal

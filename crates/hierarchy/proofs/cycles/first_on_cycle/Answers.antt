@@ -1,8 +1,8 @@
-use Rattle.std.proofs.Common.{◌≡◌, ◌∙◌, ◌+◌, ◌<◌, List, ℕ, Some, sym, subst, arith}
+use Rattle.std.proofs.Common.{◌∙◌, List, ℕ, Some, sym, subst, arith}
 use Rattle.std.specs.List.{Contains}
 use Rattle.std.proofs.lemmas.Bool.{false≢true}
 use borrow.Author.Count.{below_more}
-use Rattle.hierarchy.specs.Cycles.{IsOnCycle, IsFirstOnCycle, LeadsTo}
+use Rattle.hierarchy.specs.Cycles.{IsFirstOnCycle, LeadsTo}
 use Rattle.hierarchy.proofs.CycleLemmas.{is_on_cycle, leads_back, none_on_cycle}
 use Rattle.hierarchy.proofs.cycles.first_on_cycle.Goals as goal
 

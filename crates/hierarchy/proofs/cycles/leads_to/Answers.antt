@@ -1,4 +1,4 @@
-use Rattle.std.proofs.Common.{◌≡◌, ◌∙◌, ◌+◌, ◌++◌, ◌∷◌, [], List, ℕ, take, sym, ap, subst, arith}
+use Rattle.std.proofs.Common.{sym, arith}
 use Rattle.std.proofs.lemmas.Bool.{false≢true}
 use Rattle.hierarchy.proofs.CycleLemmas.{no_way}
 use Rattle.hierarchy.proofs.cycles.leads_to.Goals as goal

@@ -1,4 +1,4 @@
-use Rattle.std.proofs.Common.{◌≡◌, ◌+◌, ◌++◌, ◌∷◌, [], List, ℕ, drop, sym, subst}
+use Rattle.std.proofs.Common.{◌≡◌, ◌+◌, ◌++◌, ◌∷◌, [], List, ℕ, drop, subst}
 use Rattle.hierarchy.specs.Orders.{SameFirst}
 use Rattle.hierarchy.proofs.OrderLemmas.{some_more, drop_here}
 use Rattle.hierarchy.proofs.orders.add_new.Goals as goal

@@ -1,5 +1,5 @@
 use Rattle.std.proofs.Common.{arith}
-use Rattle.hierarchy.proofs.OrderLemmas.{round_begins, round_more, round_done}
+use Rattle.hierarchy.proofs.OrderLemmas.{round_more, round_done}
 use Rattle.hierarchy.proofs.orders.round.Goals as goal
 
 pub loop-number-preserved : goal.loop-number-preserved

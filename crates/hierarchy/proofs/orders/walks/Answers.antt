@@ -1,4 +1,4 @@
-use Rattle.std.proofs.Common.{◌≡◌, ◌+◌, ℕ, suc, subst, arith}
+use Rattle.std.proofs.Common.{◌≡◌, ◌+◌, suc, subst, arith}
 use Rattle.hierarchy.specs.Orders.{AreMadeBy}
 use Rattle.hierarchy.proofs.OrderLemmas.{walks_done}
 use Rattle.hierarchy.proofs.orders.walks.Goals as goal
