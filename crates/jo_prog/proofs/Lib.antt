@@ -6,3 +6,7 @@ pub mod RunLemmas
 pub mod RunningLemmas
 mod Strings
 pub mod TypingPaths
+pub mod WalkLemmas
+pub mod HierarchyLemmas
+pub mod InsnSteps
+pub mod ArrayLemmas

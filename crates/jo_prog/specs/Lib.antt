@@ -1,6 +1,11 @@
 pub mod Labels
 pub mod Operations
 pub mod Program
+pub mod Walks
+pub mod Hierarchy
+pub mod Sites
+pub mod Calls
+pub mod Types
 pub mod Numbers
 pub mod PreludeClasses
 pub mod Typing

@@ -6,6 +6,10 @@ use Rattle.jo_prog.specs.declared.program.Class.{Class}
 abbrev pub object_name : List ℕ
 object_name = codes "java/lang/Object"
 
+-- the number of java/lang/Object, its place among the names below
+abbrev pub object_number : ℕ
+object_number = 0
+
 abbrev pub string_name : List ℕ
 string_name = codes "java/lang/String"
 
@@ -15,6 +19,10 @@ string_class = 1
 
 abbrev pub object_class : Class
 object_class = record { name = object_name; flags = 0x0021; superclass = None; interfaces = []; fields = []; methods = []; operands = [] }
+
+-- the number of java/lang/Thread
+abbrev pub thread_number : ℕ
+thread_number = 3
 
 -- the names of the prelude's classes, all of them in java/lang
 abbrev pub prelude_names : List (List ℕ)

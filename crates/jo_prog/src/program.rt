@@ -146,7 +146,12 @@ fn has_signature(method: &Method, name: &[u8], desc: &[u8]) -> bool
     method.name.as_slice() == name && method.desc.as_slice() == desc
 }
 
-fn first_with(program: &Program, name: &[u8], desc: &[u8], methods: &[MethodId]) -> Option<MethodId>
+pub(crate) fn first_with(
+    program: &Program,
+    name: &[u8],
+    desc: &[u8],
+    methods: &[MethodId],
+) -> Option<MethodId>
     ensures { result ≡ first_with program.now name.now desc.now methods.now }
 {
     for m in methods {

@@ -1,0 +1,12 @@
+use Rattle.std.proofs.Common.{◌≡◌, ◌∙◌, ap}
+use Rattle.jo_prog.specs.Walks.{first_found}
+use Rattle.jo_prog.specs.Hierarchy.{own_method}
+use Rattle.hierarchy.specs.Orders.{edges}
+use Rattle.hierarchy.proofs.Queries.{method_here}
+use Rattle.hierarchy.proofs.Hierarchy.resolve.Goals as goal
+
+pub returns : goal.returns
+returns c =
+    let order : c.edges_at-order.result.now ≡ edges c.args.self.now.methods.items c.args.class = cc in
+    c.first_method.ensures ∙ ap (first_found (own_method c.args.program.now c.args.name.now c.args.desc.now)) order
+    ∙ method_here c.args.program.now c.args.self.now c.requires c.args.class c.args.name.now c.args.desc.now

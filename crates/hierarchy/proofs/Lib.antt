@@ -1,0 +1,6 @@
+pub mod OrderLemmas
+pub mod CycleLemmas
+pub mod ProgramGraphs
+pub mod Queries
+pub mod ParentLemmas
+pub mod ResolutionLemmas

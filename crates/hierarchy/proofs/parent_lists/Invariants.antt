@@ -1,0 +1,6 @@
+use Rattle.std.proofs.Common.{◌≡◌, map, take}
+use Rattle.hierarchy.specs.Hierarchies.{parent_list}
+use Rattle.hierarchy.proofs.parent_lists.Given as goal
+
+abbrev pub invariant-loop-class : goal.invariant-loop-class
+invariant-loop-class l = l.lists.items ≡ map parent_list (take l.class-index l.classes)

@@ -1,0 +1,4 @@
+pub mod Orders
+pub mod Cycles
+pub mod Hierarchies
+pub mod Resolutions
