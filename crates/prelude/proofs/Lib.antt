@@ -1,0 +1,2 @@
+mod PreludeLists
+mod EachText
