@@ -1,2 +1,3 @@
 mod PreludeLists
 mod EachText
+mod EachRead

@@ -5,7 +5,7 @@ use Rattle.class_pool.specs.declared.classes.ClassFile.{ClassFile}
 use Rattle.class_pool.specs.Pool.{class_name_at}
 use Rattle.class_asm.specs.declared.causes.Fault.{Fault}
 use Rattle.class_asm.specs.Assembly.{assembled}
-use Rattle.prelude.specs.Texts.{object_text, lower_texts}
+use Rattle.prelude.specs.Texts.{object_text, lower_texts, file_texts}
 
 abbrev pub is_class : Result ClassFile Fault → Bool
 is_class (Ok class) = true
@@ -37,3 +37,7 @@ prelude_classes = object_classes ++ lower_classes
 -- a class has this name
 abbrev pub name_in : ClassFile → Option (List ℕ)
 name_in class = class_name_at class.pool class.this_class
+
+-- the classes that a class file can hold: all but java/lang/Object and java/lang/Thread
+abbrev pub file_classes : List ClassFile
+file_classes = flat_map class_of_text file_texts

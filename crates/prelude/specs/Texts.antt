@@ -140,3 +140,7 @@ lower_texts = string_text ∷ runnable_text ∷ thread_text ∷ throwable_text �
 -- in their order, which numbers them from 0
 abbrev pub texts : List (List ℕ)
 texts = object_text ∷ lower_texts
+
+-- those that a class file can hold: java/lang/Object has no superclass, and two methods of java/lang/Thread have no body
+abbrev pub file_texts : List (List ℕ)
+file_texts = string_text ∷ runnable_text ∷ throwable_text ∷ map exception_text exceptions

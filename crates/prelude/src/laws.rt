@@ -2,10 +2,12 @@
 ghost use Rattle.std.specs.Prelude.{◌≡◌, true, map, Some};
 ghost use Rattle.std.specs.List.{AllByRecursion};
 ghost use Rattle.class_pool.specs.Fitting.{FitsClass};
+ghost use Rattle.class_pool.specs.ClassGrammar.{IsClass};
+ghost use Rattle.class_write.specs.Spelling.{spelled_class};
 ghost use Rattle.class_asm.specs.Assembly.{assembled};
 ghost use Rattle.jo_prog.specs.PreludeClasses.{prelude_names};
 ghost use Rattle.prelude.specs.Texts.{texts};
-ghost use Rattle.prelude.specs.Classes.{is_class, name_in, prelude_classes};
+ghost use Rattle.prelude.specs.Classes.{is_class, name_in, prelude_classes, file_classes};
 
 use class_asm::laws::assembled_fits;
 
@@ -25,3 +27,8 @@ pub fn classes_fit()
 {
     assembled_fits();
 }
+
+/// Each class that a class file can hold is, by the grammar of class files, what its canonical bytes say.
+pub fn classes_are_read()
+    ensures { AllByRecursion (λ class. IsClass (spelled_class class) class) file_classes }
+{}
