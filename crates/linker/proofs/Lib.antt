@@ -1,2 +1,3 @@
 mod Firsts
 mod NameLemmas
+mod CodeSteps

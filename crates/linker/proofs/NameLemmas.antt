@@ -17,7 +17,7 @@ use Rattle.linker.specs.KnownNames.{text_in}
 
 -- ---- a set of texts
 
-any_named : (keys : List (Vec ℕ Global)) (name : List ℕ) → list_any (λ key. bytes_eq name key.items) keys ≡ list_any (bytes_eq name) (map text_in keys)
+pub any_named : (keys : List (Vec ℕ Global)) (name : List ℕ) → list_any (λ key. bytes_eq name key.items) keys ≡ list_any (bytes_eq name) (map text_in keys)
 any_named [] name = refl
 any_named (key ∷ keys) name = rw (any_named keys name) refl
 

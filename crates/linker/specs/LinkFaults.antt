@@ -20,6 +20,10 @@ pub record IsFirst (P : ℕ → Type 0) (k : ℕ) : Type 0 where
 abbrev pub class_names : List ClassFile → List (List ℕ)
 class_names classes = map this_name classes
 
+-- a class has this name
+abbrev pub is_known : List (List ℕ) → List ℕ → Bool
+is_known names name = list_any (bytes_eq name) names
+
 -- the class with this number has the name of an earlier one
 abbrev pub IsTwiceDefined : List (List ℕ) → ℕ → Type 0
 IsTwiceDefined names k = IsSomeAnd (slice_get names k) (λ name. Contains (take k names) name)

@@ -2,7 +2,9 @@
 #![tactic(auto)]
 
 pub mod faults;
+pub mod laws;
 pub mod names;
+pub mod needs;
 #[cfg(test)]
 mod tests;
 

@@ -2,7 +2,7 @@
 ghost use Rattle.std.specs.Prelude.{◌≡◌, ◌↔◌, ◌<◌, ◌^◌, ◌++◌, ◌∷◌, [], ℕ, length, position, IfErr, IfOk, OnOk, IsTrue};
 ghost use Rattle.std.specs.List.{Contains};
 ghost use Rattle.std.specs.Str.{bytes_eq};
-ghost use Rattle.linker.specs.LinkFaults.{class_names, IsTwiceDefined};
+ghost use Rattle.linker.specs.LinkFaults.{class_names, is_known, IsTwiceDefined};
 ghost use Rattle.linker.specs.Linking.{this_name};
 ghost use Rattle.linker.specs.KnownNames.{IsTwiceFault};
 
@@ -58,7 +58,8 @@ impl ClassNames {
 
     /// Whether a class has this name.
     pub fn has(&self, name: &[u8]) -> bool
-        ensures { IsTrue result ↔ Contains self.now name.now }
+        ensures known { result ≡ is_known self.now name.now }
+        ensures there { IsTrue result ↔ Contains self.now name.now }
     {
         self.names.contains(name)
     }

@@ -8,7 +8,7 @@ use Rattle.linker.proofs.names.names_of.Goals as goal
 pub returns-then-has-clause-twice : goal.returns-then-has-clause-twice
 returns-then-has-clause-twice c =
     let at = slice_get_read c.args.classes.now (length c.args.classes.now) c.loop-number.number c.index-classes-number.result refl c.loop-number-test.true c.index-classes-number.is in
-    let found : Contains c.loop-number.names c.name_of-name.result.now = c.has.ensures.0 c.if-has.true in
+    let found : Contains c.loop-number.names c.name_of-name.result.now = c.has.ensures.there.0 c.if-has.true in
     let there : Contains (map this_name (take c.loop-number.number c.args.classes.now)) (this_name c.index-classes-number.result) =
     subst (λ names. Contains names (this_name c.index-classes-number.result)) c.loop-number.invariant.names (subst (Contains c.loop-number.names) c.name_of-name.ensures found) in
     let first : IsFirst (IsTwiceDefined (class_names c.args.classes.now)) c.loop-number.number = record {
@@ -23,7 +23,7 @@ loop-number-preserved c =
     let at = slice_get_read c.args.classes.now (length c.args.classes.now) c.loop-number.number c.index-classes-number.result refl c.loop-number-test.true c.index-classes-number.is in
     let more = names_more c.args.classes.now c.loop-number.number c.index-classes-number.result at in
     let new : Contains (map this_name (take c.loop-number.number c.args.classes.now)) (this_name c.index-classes-number.result) → ⊥ = λ there.
-    let found : c.has.result ≡ true = c.has.ensures.1
+    let found : c.has.result ≡ true = c.has.ensures.there.1
     (subst (Contains c.loop-number.names) (sym c.name_of-name.ensures) (subst (λ names. Contains names (this_name c.index-classes-number.result)) (sym c.loop-number.invariant.names) there)) in
     absurd (cc) in
     record {
