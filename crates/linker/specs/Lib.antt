@@ -1,1 +1,4 @@
 pub mod Linking
+pub mod LinkFaults
+pub mod NeededClasses
+pub mod KnownNames

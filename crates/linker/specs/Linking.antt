@@ -1,5 +1,5 @@
 -- The program of one class file: the prelude, here its first class without its members, and the file's class.
-use Rattle.std.specs.Prelude.{ℕ, zero, suc, Bool, false, if◌then◌else◌, List, [], ◌∷◌, map, length, Option, Some, None, option_map, unwrap_or, codes}
+use Rattle.std.specs.Prelude.{ℕ, Bool, false, if◌then◌else◌, List, [], ◌∷◌, map, length, Option, Some, None, option_map, unwrap_or}
 use Rattle.std.specs.Str.{bytes_eq}
 use Rattle.class_pool.specs.Pool.{utf8_at, class_name_at, entry_at}
 use Rattle.class_pool.specs.declared.entries.PoolEntry.{PoolEntry}

@@ -1,6 +1,13 @@
 //! Makes the program of one class file.
 #![tactic(auto)]
 
+pub mod faults;
+pub mod laws;
+pub mod names;
+pub mod needs;
+#[cfg(test)]
+mod tests;
+
 ghost use Rattle.std.specs.Prelude.{◌≡◌, ◌<◌, ◌^◌, ◌++◌, ◌∷◌, [], length, map, option_map, IfOk, OnOk};
 ghost use Rattle.class_pool.specs.Pool.{entry_at};
 ghost use Rattle.jo_prog.specs.declared.program.Operand.TheVariants.{Unused};

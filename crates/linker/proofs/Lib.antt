@@ -1,0 +1,4 @@
+mod Firsts
+mod NameLemmas
+mod CodeSteps
+mod PreludeLinks

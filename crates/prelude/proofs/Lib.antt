@@ -1,0 +1,3 @@
+mod PreludeLists
+mod EachText
+mod EachRead
