@@ -2,3 +2,10 @@ pub mod PolicyLabels
 pub mod PolicyParts
 pub mod PolicyReads
 pub mod PolicySteps
+pub mod MethodEntries
+pub mod Tables
+pub mod PolicyOrders
+pub mod PolicyMakes
+pub mod WholeLabels
+pub mod PolicyAnswers
+pub mod RunAnswers

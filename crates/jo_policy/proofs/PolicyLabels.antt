@@ -36,15 +36,15 @@ all_both P Q (x ∷ xs) p q = ((p.0, q.0), all_both P Q xs p.1 q.1)
 
 -- ---- the labelled methods, in order
 
-abbrev Item : Type 0
+abbrev pub Item : Type 0
 Item = ℕ × Label
 
 -- the numbers ascend from a first one on
-abbrev Ascends : ℕ → List Item → Type 0
+abbrev pub Ascends : ℕ → List Item → Type 0
 Ascends first [] = Unit {0}
 Ascends first (item ∷ items) = (first ≤ item.0) × Ascends (suc item.0) items
 
-ascends_before : (first : ℕ) (items : List Item) → Ascends (suc first) items → Ascends first items
+pub ascends_before : (first : ℕ) (items : List Item) → Ascends (suc first) items → Ascends first items
 ascends_before first [] h = tt
 ascends_before first (item ∷ items) h = (omega arith, h.1)
 
@@ -55,7 +55,7 @@ increasing first (x ∷ []) h k below = absurd (omega arith)
 increasing first (x ∷ y ∷ items) h zero below = omega (arith, h.1.0)
 increasing first (x ∷ y ∷ items) h (suc k) below = increasing (suc x.0) (y ∷ items) h.1 k (omega arith)
 
-in_order : (items : List Item) → Ascends 0 items → IsStrictlyIncreasing (map (λ (item : Item). item.0) items)
+pub in_order : (items : List Item) → Ascends 0 items → IsStrictlyIncreasing (map (λ (item : Item). item.0) items)
 in_order items h = λ k below. rw add-one (increasing 0 items h k (omega arith))
 
 -- the label of each item is found by its number
@@ -141,7 +141,7 @@ no_code : (code : Option Code) → is_none code ≡ true → code ≡ None
 no_code None e = refl
 no_code (Some code) e = absurd (false≢true e)
 
-method_below : (methods : List Method) (i : ℕ) → i < length methods → (m : Method) × (slice_get methods i ≡ Some m)
+pub method_below : (methods : List Method) (i : ℕ) → i < length methods → (m : Method) × (slice_get methods i ≡ Some m)
 method_below [] i below = absurd (omega arith)
 method_below (m ∷ ms) zero below = (m, refl)
 method_below (m ∷ ms) (suc i) below = method_below ms i (omega arith)

@@ -1,1 +1,8 @@
 pub mod PolicyFile
+pub mod Numbering
+pub mod FileMethods
+pub mod Labelling
+pub mod Policies
+pub mod RunFiles
+pub mod WellLabelled
+pub mod LabelTables

@@ -1,6 +1,16 @@
-//! Policies: TOML with the levels, what flows where, the entry, and the levels of sources and sinks.
+//! Policies: TOML with the levels, what flows where, the entry, and the levels of sources, sinks and releases. Run files.
 #![tactic(auto)]
 
+mod labelling;
+pub mod laws;
+mod numbering;
+mod ordering;
 mod reader;
+mod run_file;
+mod spellings;
+pub mod whole;
 
+pub use policy_tree::{ContextsKey, LevelFault, PolicyFault, RunFileFault};
 pub use reader::read_policy;
+pub use run_file::{RunPlan, read_run};
+

@@ -23,7 +23,7 @@ use toml::{Table, Value};
 
 // ---- names and lists
 
-fn copy_name(alloc: Global, text: &[u8]) -> Result<Name, Memory>
+pub(crate) fn copy_name(alloc: Global, text: &[u8]) -> Result<Name, Memory>
     ensures { IfOk result (λ name. name ≡ text.now) }
 {
     let mut name = Name::new(alloc);
@@ -32,7 +32,7 @@ fn copy_name(alloc: Global, text: &[u8]) -> Result<Name, Memory>
 }
 
 /// The number of the first name that is this text.
-fn place_of(names: &[Name], text: &[u8]) -> Option<u32>
+pub(crate) fn place_of(names: &[Name], text: &[u8]) -> Option<u32>
     requires { length names.now < 2 ^ 32 }
     ensures { result ≡ place_from 0 names.now text.now }
 {
@@ -375,7 +375,7 @@ fn desc_for(label: Label) -> &'static [u8]
     }
 }
 
-fn fits_label(method: &Method, label: Option<Label>) -> bool
+pub(crate) fn fits_label(method: &Method, label: Option<Label>) -> bool
     ensures { result ≡ fits_it method.now label }
 {
     match label {
@@ -403,7 +403,7 @@ fn labels_fit(methods: &[Method], labelled: &[(MethodId, Label)]) -> bool
 
 // ---- the policy
 
-fn count_levels(alloc: Global, count: u32) -> Result<List<LevelId>, Memory>
+pub(crate) fn count_levels(alloc: Global, count: u32) -> Result<List<LevelId>, Memory>
     ensures { IfOk result (λ levels. levels ≡ count_from 0 count) }
 {
     let mut levels = List::new(alloc);

@@ -1,0 +1,8 @@
+use Rattle.std.proofs.Common.{◌≡◌, drop}
+use Rattle.policy_tree.specs.Outcomes.{behind}
+use Rattle.jo_policy.specs.RunFiles.{within}
+use Rattle.jo_policy.proofs.run_file.naturals_within.Given as goal
+
+-- the numbers before this one are in their range
+abbrev pub invariant-loop-value : goal.invariant-loop-value
+invariant-loop-value l = behind l.numbers (within (drop l.value-index l.values)) ≡ within l.values

@@ -1,0 +1,4 @@
+pub mod Outcomes
+pub mod TreeKeys
+pub mod PolicyTree
+pub mod RunTree
