@@ -1,3 +1,4 @@
 pub mod ChainLemmas
 pub mod GrowingLemmas
+pub mod OnceLemmas
 pub mod Passes

@@ -7,6 +7,7 @@ mod dependence_graph;
 mod graphs;
 mod kinds;
 pub mod laws;
+mod once_lists;
 
 pub use accesses::{Access, Cell, ObjName};
 pub use chains::{Chain, Step, Word};
@@ -14,6 +15,7 @@ pub use dependence_graph::{DependenceGraph, GraphFault, GraphNode};
 pub use graphs::{Edge, Graph, NodeName};
 pub use jo_ids::SiteList;
 pub use kinds::{EdgeKind, NodeKind};
+pub use once_lists::{Keyed, OnceList, Table};
 
 #[cfg(test)]
 mod tests;
