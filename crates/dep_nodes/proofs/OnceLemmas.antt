@@ -251,3 +251,12 @@ list_with_table key xs ys slots last before last_new before_new list same last_l
   few = omega (arith, last_len, few);
   table = inr (subst (λ k. IsTable (slots_of key k xs) last_new before_new) (sym last_len) (subst (λ zs. IsTable (slots_of key slots zs) last_new before_new) same table));
 }
+
+pub contains_at : {A : Type 0} (xs : List A) (place : ℕ) (x : A) → slice_get xs place ≡ Some x → Contains xs x
+contains_at xs place x is = (place, slice_get_within xs place x is, get_or_from_slice_get xs place x x is)
+
+pub told_yes : {P : Type 0} → P → IsTrue true ↔ P
+told_yes p = (λ _. p, λ _. refl)
+
+pub told_no : {P : Type 0} → (P → ⊥) → IsTrue false ↔ P
+told_no none = (λ told. absurd (subst Is_true (sym told) tt), λ p. absurd (none p))

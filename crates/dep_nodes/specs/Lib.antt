@@ -2,5 +2,6 @@ pub mod ChainExamples
 pub mod Chains
 pub mod Graphs
 pub mod GrowingGraphs
+pub mod ItemKeys
 pub mod Nodes
 pub mod OnceLists

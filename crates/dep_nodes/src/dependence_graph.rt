@@ -5,7 +5,8 @@ ghost use Rattle.dep_nodes.specs.GrowingGraphs.{bare, AddsEdge, AddsFlow, AddsAc
 use crate::accesses::{Access, Cell};
 use crate::graphs::NodeName;
 use crate::kinds::EdgeKind;
-use jo_ids::{Id, LimitKind, List, Memory, NodeId};
+use crate::once_lists::OnceList;
+use jo_ids::{Id, LimitKind, Memory, NodeId};
 use std::alloc::Global;
 use std::marker::Model;
 
@@ -26,9 +27,9 @@ pub enum GraphFault {
 #[derive(Drop)]
 pub struct GraphNode {
     pub name: NodeName,
-    pub edges: List<(NodeId, EdgeKind)>,
-    pub flows: List<NodeId>,
-    pub accesses: List<Access>,
+    pub edges: OnceList<(NodeId, EdgeKind)>,
+    pub flows: OnceList<NodeId>,
+    pub accesses: OnceList<Access>,
 }
 
 /// A dependence graph, which contracts see as the list of its nodes.
@@ -77,9 +78,9 @@ impl DependenceGraph {
         }
         let node = GraphNode {
             name,
-            edges: List::new(self.alloc),
-            flows: List::new(self.alloc),
-            accesses: List::new(self.alloc),
+            edges: OnceList::new(self.alloc),
+            flows: OnceList::new(self.alloc),
+            accesses: OnceList::new(self.alloc),
         };
         match self.nodes.push(node) {
             Ok(()) => Ok(Id::of(number as u32)),
@@ -97,13 +98,13 @@ impl DependenceGraph {
         ensures limit { IsLimitedWhere result (HasMostEdges self.old × ¬ (HasEdge self.old from kind to)) }
     {
         let node = &mut self.nodes[to.number() as usize];
-        if has_edge(node.edges.as_slice(), from, kind) {
+        if node.edges.has(&(from, kind)) {
             return Ok(());
         }
         if self.size >= MOST_EDGES {
             return Err(GraphFault::Limit(LimitKind::M5));
         }
-        match node.edges.push((from, kind)) {
+        match node.edges.push_new((from, kind)) {
             Ok(()) => {
                 self.size += 1;
                 Ok(())
@@ -121,12 +122,12 @@ impl DependenceGraph {
         ensures err { OnErr result (self.new ≡ self.old) }
     {
         let node = &mut self.nodes[from.number() as usize];
-        if has_flow(node.flows.as_slice(), to) {
+        if node.flows.has(&to) {
             return Ok(());
         }
-        match node.flows.push(to) {
+        match node.flows.push_new(to) {
             Ok(()) => Ok(()),
-            Err((_, memory)) => Err(memory),
+            Err(memory) => Err(memory),
         }
     }
 
@@ -140,13 +141,13 @@ impl DependenceGraph {
     {
         let access = Access { cell, write };
         let node = &mut self.nodes[node.number() as usize];
-        if has_access(node.accesses.as_slice(), &access) {
+        if node.accesses.has(&access) {
             return Ok(());
         }
         if self.size >= MOST_EDGES {
             return Err(GraphFault::Limit(LimitKind::M5));
         }
-        match node.accesses.push(access) {
+        match node.accesses.push_new(access) {
             Ok(()) => {
                 self.size += 1;
                 Ok(())
@@ -195,25 +196,4 @@ impl DependenceGraph {
     {
         self.nodes[node.number() as usize].accesses.as_slice()
     }
-}
-
-/// Whether the edge is one of these.
-fn has_edge(edges: &[(NodeId, EdgeKind)], from: NodeId, kind: EdgeKind) -> bool
-    ensures { IsTrue result ↔ Contains edges.now (from, kind) }
-{
-    edges.contains(&(from, kind))
-}
-
-/// Whether the node is one of these.
-fn has_flow(flows: &[NodeId], to: NodeId) -> bool
-    ensures { IsTrue result ↔ Contains flows.now to }
-{
-    flows.contains(&to)
-}
-
-/// Whether the access is one of these.
-fn has_access(accesses: &[Access], access: &Access) -> bool
-    ensures { IsTrue result ↔ Contains accesses.now access.now }
-{
-    accesses.contains(access)
 }

@@ -5,6 +5,7 @@ mod accesses;
 mod chains;
 mod dependence_graph;
 mod graphs;
+mod item_keys;
 mod kinds;
 pub mod laws;
 mod once_lists;

@@ -25,7 +25,8 @@ pub trait Keyed: Copy {
         ensures { IsTrue result ↔ (self.now ≡ other.now) };
 }
 
-/// A list that grows at its end and holds each item once.
+/// A list that grows at its end and holds each item once. An item takes at most twice its own size, since the list grows by
+/// half its length at least, and 16 bytes of the table: an edge of a graph 32 bytes.
 #[derive(Drop)]
 pub struct OnceList<T: Keyed> {
     items: Vec<T>,
@@ -98,6 +99,16 @@ impl<T: Keyed> OnceList<T> {
                 self.table.before.as_slice(),
                 item,
             )
+        }
+    }
+
+    /// Whether the item is there.
+    pub fn has(&self, item: &T) -> bool
+        ensures { IsTrue result ↔ Contains self.now item.now }
+    {
+        match self.find(item) {
+            Some(_) => true,
+            None => false,
         }
     }
 
