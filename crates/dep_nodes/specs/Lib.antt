@@ -5,3 +5,4 @@ pub mod GrowingGraphs
 pub mod ItemKeys
 pub mod Nodes
 pub mod OnceLists
+pub mod OneForm

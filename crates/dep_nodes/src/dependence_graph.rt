@@ -1,8 +1,9 @@
 //! The dependence graph, which grows by nodes, edges and accesses.
 ghost use Rattle.std.specs.Prelude.{◌≡◌, ◌↔◌, ◌<◌, ◌++◌, ◌∷◌, [], length, slice_get, option_map, All, Contains, IfOk, OnErr, OnOk, IsTrue};
+ghost use Rattle.dep_nodes.specs.OneForm.{plain_cell};
 ghost use Rattle.dep_nodes.specs.GrowingGraphs.{bare, AddsEdge, AddsFlow, AddsAccess, HasEdge, HasAccess, IsLimitedWhere, HasMostNodes, HasMostEdges};
 
-use crate::accesses::{Access, Cell};
+use crate::accesses::{Access, Cell, in_one_form};
 use crate::graphs::NodeName;
 use crate::kinds::EdgeKind;
 use crate::once_lists::OnceList;
@@ -131,15 +132,19 @@ impl DependenceGraph {
         }
     }
 
-    /// Adds the access behind those of the same node, unless it is there.
+    /// Adds the access behind those of the same node, unless it is there. Its cell is kept in the one form of a cell, so two
+    /// names of one cell are one access.
     pub fn add_access(&mut self, node: NodeId, cell: Cell, write: bool) -> Result<(), GraphFault>
         requires { node < length self.old }
-        ensures ok { OnOk result (AddsAccess self.old self.new node (record { cell = cell; write = write })) }
+        ensures ok { OnOk result (AddsAccess self.old self.new node (record { cell = plain_cell cell; write = write })) }
         ensures count { length self.new ≡ length self.old }
         ensures err { OnErr result (self.new ≡ self.old) }
-        ensures limit { IsLimitedWhere result (HasMostEdges self.old × ¬ (HasAccess self.old node (record { cell = cell; write = write }))) }
+        ensures limit { IsLimitedWhere result (HasMostEdges self.old × ¬ (HasAccess self.old node (record { cell = plain_cell cell; write = write }))) }
     {
-        let access = Access { cell, write };
+        let access = Access {
+            cell: in_one_form(&cell),
+            write,
+        };
         let node = &mut self.nodes[node.number() as usize];
         if node.accesses.has(&access) {
             return Ok(());

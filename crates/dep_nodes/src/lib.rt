@@ -10,7 +10,7 @@ mod kinds;
 pub mod laws;
 mod once_lists;
 
-pub use accesses::{Access, Cell, ObjName};
+pub use accesses::{Access, Cell, ObjName, in_one_form, one_form_is_by_sites};
 pub use chains::{Chain, Step, Word};
 pub use dependence_graph::{DependenceGraph, GraphFault, GraphNode};
 pub use graphs::{Edge, Graph, NodeName};

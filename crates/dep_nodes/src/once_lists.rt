@@ -25,8 +25,8 @@ pub trait Keyed: Copy {
         ensures { IsTrue result ↔ (self.now ≡ other.now) };
 }
 
-/// A list that grows at its end and holds each item once. An item takes at most twice its own size, since the list grows by
-/// half its length at least, and 16 bytes of the table: an edge of a graph 32 bytes.
+/// A list that grows at its end and holds each item once. The list and the table double as they grow, so an item takes at
+/// most twice its own size and 16 bytes of the table: an edge of a graph, of 8 bytes, takes at most 32.
 #[derive(Drop)]
 pub struct OnceList<T: Keyed> {
     items: Vec<T>,
