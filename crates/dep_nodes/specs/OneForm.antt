@@ -1,5 +1,5 @@
 -- The one form of a cell, which all its names have in common (this project's own).
-use Rattle.std.specs.Prelude.{◌≡◌, ℕ, List, [], ◌∷◌}
+use Rattle.std.specs.Prelude.{ℕ, List, [], ◌∷◌}
 use Rattle.jo_ids.specs.declared.SiteList.{SiteList}
 use Rattle.dep_nodes.specs.declared.accesses.ObjName.{ObjName}
 use Rattle.dep_nodes.specs.declared.accesses.Cell.{Cell}

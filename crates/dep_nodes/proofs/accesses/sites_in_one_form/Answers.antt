@@ -1,4 +1,4 @@
-use Rattle.std.proofs.Common.{◌≤◌, arith}
+use Rattle.std.proofs.Common.{arith}
 use Rattle.dep_nodes.proofs.OneFormLemmas.{plain_of_none, plain_of_one, plain_of_two}
 use Rattle.dep_nodes.proofs.accesses.sites_in_one_form.Goals as goal
 

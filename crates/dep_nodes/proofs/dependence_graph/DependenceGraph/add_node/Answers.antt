@@ -1,5 +1,5 @@
-use Rattle.std.proofs.Common.{◌≡◌, ◌++◌, ◌∷◌, [], arith, rules, subst, sym, ap, ◌∙◌}
-use Rattle.dep_nodes.specs.GrowingGraphs.{IsWithinLimits, HasIdsInside, bare, graph_size}
+use Rattle.std.proofs.Common.{◌≡◌, ◌++◌, ◌∷◌, [], rules, subst, sym, ap, ◌∙◌}
+use Rattle.dep_nodes.specs.GrowingGraphs.{HasIdsInside, bare, graph_size}
 use Rattle.dep_nodes.proofs.GrowingLemmas.{inside_push, size_pushed}
 use Rattle.dep_nodes.proofs.dependence_graph.DependenceGraph.add_node.Goals as goal
 use Rattle.dep_nodes.proofs.dependence_graph.DependenceGraph.add_node.Goals.{in-Ok, in-Err}

@@ -1,4 +1,4 @@
-use Rattle.std.proofs.Common.{◌≡◌, ◌++◌, ◌∷◌, [], ◌<◌, length, Contains, subst, sym, ap, ◌∙◌, rules, arith}
+use Rattle.std.proofs.Common.{◌≡◌, ◌++◌, ◌∷◌, [], length, Contains, subst, ap, ◌∙◌, rules, arith}
 use Rattle.dep_nodes.specs.OnceLists.{slot_of}
 use Rattle.dep_nodes.proofs.OnceLemmas.{list_grows, list_bare}
 use Rattle.dep_nodes.proofs.once_lists.OnceList.push_new.Goals as goal
