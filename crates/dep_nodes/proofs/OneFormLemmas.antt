@@ -1,7 +1,10 @@
 -- The one form of lists of sites.
 use Rattle.std.proofs.Common.{◌≡◌, ℕ, zero, suc, ◌≤◌, refl, sym, ap, ◌∙◌, arith}
 use Rattle.jo_ids.specs.declared.SiteList.{SiteList}
-use Rattle.dep_nodes.specs.OneForm.{plain_sites}
+use Rattle.dep_nodes.specs.declared.accesses.ObjName.{ObjName}
+use Rattle.dep_nodes.specs.declared.accesses.Cell.{Cell}
+use Rattle.dep_nodes.specs.declared.accesses.Cell.TheVariants.{Field, Elements, Static, Cursor, Started}
+use Rattle.dep_nodes.specs.OneForm.{plain_list, plain_sites, plain_object, plain_cell}
 use Rattle.dep_nodes.specs.Nodes.{sites_of}
 
 abbrev sites_with : ℕ → ℕ → ℕ → SiteList
@@ -25,3 +28,13 @@ kept_with (suc (suc n)) first second = refl
 
 pub sites_kept : (sites : SiteList) → sites_of (plain_sites sites) ≡ sites_of sites
 sites_kept sites = kept_with sites.len sites.first sites.second
+
+object_again : (object : ObjName) → plain_object (plain_object object) ≡ plain_object object
+object_again object = ap (λ s. record { site = object.site; sites = s }) (ap plain_list (sites_kept object.sites))
+
+pub plain_again : (cell : Cell) → plain_cell (plain_cell cell) ≡ plain_cell cell
+plain_again (Field field object) = ap (Field field) (object_again object)
+plain_again (Elements object) = ap Elements (object_again object)
+plain_again (Static field) = refl
+plain_again (Cursor method) = refl
+plain_again (Started object) = ap Started (object_again object)

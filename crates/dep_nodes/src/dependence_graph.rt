@@ -1,8 +1,10 @@
 //! The dependence graph, which grows by nodes, edges and accesses.
 ghost use Rattle.std.specs.Prelude.{◌≡◌, ◌↔◌, ◌<◌, ◌++◌, ◌∷◌, [], length, slice_get, option_map, All, Contains, IfOk, OnErr, OnOk, IsTrue};
 ghost use Rattle.dep_nodes.specs.OneForm.{plain_cell};
-ghost use Rattle.dep_nodes.specs.GrowingGraphs.{bare, AddsEdge, AddsFlow, AddsAccess, HasEdge, HasAccess, IsLimitedWhere, HasMostNodes, HasMostEdges};
+ghost use Rattle.dep_nodes.specs.AccessTables.{ListsAccess};
+ghost use Rattle.dep_nodes.specs.GrowingGraphs.{bare, AddsEdge, AddsFlow, AddsAccess, HasEdge, HasAccess, IsAccessTable, IsLimitedWhere, HasMostNodes, HasMostEdges};
 
+use crate::access_table::{AccessTable, Accessor, CellAccesses};
 use crate::accesses::{Access, Cell, in_one_form};
 use crate::graphs::NodeName;
 use crate::kinds::EdgeKind;
@@ -37,6 +39,8 @@ pub struct GraphNode {
 #[derive(Drop)]
 pub struct DependenceGraph {
     nodes: Vec<GraphNode>,
+    /// The cells that the nodes access, each with its accesses.
+    cells: AccessTable,
     /// How many edges and accesses the nodes have together.
     size: u32,
     alloc: Global,
@@ -45,13 +49,13 @@ pub struct DependenceGraph {
 impl Model for DependenceGraph {
     ghost use Rattle.std.specs.Prelude.{List as Items};
     ghost use Rattle.dep_nodes.specs.declared.dependence_graph.GraphNode.{GraphNode};
-    ghost use Rattle.dep_nodes.specs.GrowingGraphs.{IsWithinLimits};
+    ghost use Rattle.dep_nodes.specs.GrowingGraphs.{IsGrownGraph};
 
     ghost Value = { Items GraphNode };
 
     ghost view = { λ g. g.nodes.items };
 
-    ghost invariant = { λ g. IsWithinLimits g.nodes.items g.nodes.len g.size };
+    ghost invariant = { λ g. IsGrownGraph g.nodes.items g.cells g.nodes.len g.size };
 }
 
 impl DependenceGraph {
@@ -61,6 +65,7 @@ impl DependenceGraph {
     {
         DependenceGraph {
             nodes: Vec::new(alloc),
+            cells: AccessTable::new(alloc),
             size: 0,
             alloc,
         }
@@ -145,6 +150,7 @@ impl DependenceGraph {
             cell: in_one_form(&cell),
             write,
         };
+        let accessor = Accessor { node, write };
         let node = &mut self.nodes[node.number() as usize];
         if node.accesses.has(&access) {
             return Ok(());
@@ -152,7 +158,7 @@ impl DependenceGraph {
         if self.size >= MOST_EDGES {
             return Err(GraphFault::Limit(LimitKind::M5));
         }
-        match node.accesses.push_new(access) {
+        match add_to_both(&mut node.accesses, access, &mut self.cells, accessor) {
             Ok(()) => {
                 self.size += 1;
                 Ok(())
@@ -200,5 +206,36 @@ impl DependenceGraph {
         ensures { option_map (λ n. n.accesses) (slice_get self.now node) ≡ Some result.now }
     {
         self.nodes[node.number() as usize].accesses.as_slice()
+    }
+    /// The cells that some node accesses, each once in the order in which they were first accessed, each with its accesses in
+    /// order of adding. It takes no memory.
+    pub fn cells(&self) -> &[CellAccesses]
+        ensures { IsAccessTable self.now result.now }
+    {
+        self.cells.as_slice()
+    }
+}
+
+/// Adds an access to those of its node, which lack it, and to those of its cell; where memory is wanted, to neither.
+fn add_to_both(
+    accesses: &mut OnceList<Access>,
+    access: Access,
+    cells: &mut AccessTable,
+    accessor: Accessor,
+) -> Result<(), Memory>
+    requires { Contains accesses.old access → ⊥ }
+    ensures node { OnOk result (accesses.new ≡ accesses.old ++ access ∷ []) }
+    ensures cell { OnOk result (ListsAccess cells.old cells.new access.cell accessor) }
+    ensures err { OnErr result (accesses.new ≡ accesses.old) }
+    ensures err_cell { OnErr result (cells.new ≡ cells.old) }
+{
+    let cell = access.cell;
+    accesses.push_new(access)?;
+    match cells.add(cell, accessor) {
+        Ok(()) => Ok(()),
+        Err(memory) => {
+            accesses.drop_last();
+            Err(memory)
+        }
     }
 }

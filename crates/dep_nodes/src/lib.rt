@@ -1,6 +1,7 @@
 //! The dependence graph as data: nodes, edges, and chains of steps.
 #![tactic(auto)]
 
+mod access_table;
 mod accesses;
 mod chains;
 mod dependence_graph;
@@ -10,6 +11,7 @@ mod kinds;
 pub mod laws;
 mod once_lists;
 
+pub use access_table::{AccessTable, Accessor, CellAccesses};
 pub use accesses::{Access, Cell, ObjName, in_one_form, one_form_is_by_sites};
 pub use chains::{Chain, Step, Word};
 pub use dependence_graph::{DependenceGraph, GraphFault, GraphNode};

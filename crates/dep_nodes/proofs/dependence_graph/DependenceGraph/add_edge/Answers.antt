@@ -1,5 +1,6 @@
 use Rattle.std.proofs.Common.{◌≡◌, ◌+◌, ◌<◌, length, Contains, refl, ap, ◌∙◌, subst, arith, sym, inl, inr}
 use Rattle.dep_nodes.specs.GrowingGraphs.{HasMostEdges, graph_size}
+use Rattle.dep_nodes.proofs.CellLemmas.{table_of_set}
 use Rattle.dep_nodes.proofs.GrowingLemmas.{IsAt, is_at, holds_at, held_at, has, lacks, edge_added, inside_edge, size_set, one_more}
 use Rattle.dep_nodes.proofs.dependence_graph.DependenceGraph.add_edge.Goals as goal
 
@@ -54,6 +55,7 @@ invariant_of-self-in-Ok c =
       counted = ap (λ k. k + 1) c.self.invariant.counted ∙ sym (size_set nodes c.args.self.now n c.args.to node (record node { edges = c.push_new.new.self }) at (omega (arith, one_more node.edges c.push_new.new.self (c.args.from, c.args.kind) c.in-Ok.ensures.ok)));
       edges_within = omega (arith, c.if-self-ge-MOST_EDGES.false);
       inside = inside_edge nodes c.args.self.now n c.args.to node at c.self.invariant.inside c.args.from c.args.kind c.push_new.new.self c.in-Ok.ensures.ok c.requires.begins;
+      table = table_of_set nodes n node (record node { edges = c.push_new.new.self }) c.self.inside.cells at.found refl c.self.invariant.table;
     }
 
 pub push_new-requires : goal.push_new-requires
