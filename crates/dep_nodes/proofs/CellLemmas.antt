@@ -14,7 +14,7 @@ use Rattle.dep_nodes.specs.GrowingGraphs.{bare, size_at, graph_size, IsInside, H
 use Rattle.std.proofs.lemmas.List.Sums.{sum_by-set}
 use Rattle.std.proofs.lemmas.Option.{slice_get_within, get_or_from_slice_get}
 use Rattle.dep_nodes.proofs.GrowingLemmas.{IsAt, all_found, all_push, inside_set}
-use Rattle.dep_nodes.proofs.ListedLemmas.{set_keeps, set_puts, set_had, push_keeps, push_had, only_one, last_there, listed_kept, listed_now, listed_had, cells_stay_once, accessors_stay_once, all_used, all_stay}
+use Rattle.dep_nodes.proofs.ListedLemmas.{Has, is_there, set_keeps, set_puts, set_had, push_keeps, push_had, only_one, last_there, listed_kept, listed_now, listed_had, cells_stay_once, accessors_stay_once, all_used, all_stay}
 
 abbrev by : ℕ → Access → Accessor
 by n access = record { node = n; write = access.write }
@@ -122,3 +122,11 @@ graph_with_flow nodes old n from node cells count size is to flows made below gr
     within : AllByRecursion (λ end. end < length nodes) node.flows → to < length nodes → (flows ≡ node.flows) ⊎ (flows ≡ node.flows ++ to ∷ []) → AllByRecursion (λ end. end < length nodes) flows
     within all ends (inl same) = subst (AllByRecursion (λ end. end < length nodes)) (sym same) all
     within all ends (inr more) = subst (AllByRecursion (λ end. end < length nodes)) (sym more) (all_push (λ end. end < length nodes) node.flows to all ends)
+
+-- ---- the one form of what a node accesses
+
+pub plain_access : (nodes : List GraphNode) (cells : List CellAccesses) → IsAccessTable nodes cells → (n : ℕ) (access : Access) → HasAccess nodes n access → plain_cell access.cell ≡ access.cell
+plain_access nodes cells table n access has =
+    let listed : HasAccessor cells n access = table.listed n access has in
+    let at = is_there (Has access.cell (by n access)) (slice_get cells listed.0) listed.1 in
+    subst (λ cell. plain_cell cell ≡ cell) at.holds.0 (all_found (λ x. plain_cell x.cell ≡ x.cell) cells listed.0 at.item table.plain at.is)

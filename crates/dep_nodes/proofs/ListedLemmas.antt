@@ -77,7 +77,7 @@ with_more at accessor = record at { accessors = at.accessors ++ accessor ∷ [] 
 abbrev first_of : Cell → Accessor → CellAccesses
 first_of cell accessor = record { cell = cell; accessors = accessor ∷ [] }
 
-abbrev Has : Cell → Accessor → CellAccesses → Type 0
+abbrev pub Has : Cell → Accessor → CellAccesses → Type 0
 Has cell accessor at = (at.cell ≡ cell) × Contains at.accessors accessor
 
 pub listed_kept : (old new : List CellAccesses) (cell : Cell) (accessor : Accessor) → ListsAccess old new cell accessor → (c : Cell) (a : Accessor) → IsListed old c a → IsListed new c a

@@ -1,7 +1,10 @@
 //! The dependence graph, which grows by nodes, edges and accesses.
-ghost use Rattle.std.specs.Prelude.{◌≡◌, ◌↔◌, ◌<◌, ◌++◌, ◌∷◌, [], length, slice_get, option_map, All, Contains, IfOk, OnErr, OnOk, IsTrue};
+ghost use Rattle.std.specs.Prelude.{◌≡◌, ◌↔◌, ℕ, List as Items, ◌<◌, ◌++◌, ◌∷◌, [], length, slice_get, option_map, All, Contains, IfOk, OnErr, OnOk, IsTrue};
 ghost use Rattle.dep_nodes.specs.OneForm.{plain_cell};
 ghost use Rattle.dep_nodes.specs.AccessTables.{ListsAccess};
+ghost use Rattle.dep_nodes.specs.declared.accesses.Access.{Access};
+ghost use Rattle.dep_nodes.specs.declared.access_table.CellAccesses.{CellAccesses};
+ghost use Rattle.dep_nodes.specs.declared.dependence_graph.GraphNode.{GraphNode};
 ghost use Rattle.dep_nodes.specs.GrowingGraphs.{bare, AddsEdge, AddsFlow, AddsAccess, HasEdge, HasAccess, IsAccessTable, IsLimitedWhere, HasMostNodes, HasMostEdges};
 
 use crate::access_table::{AccessTable, Accessor, CellAccesses};
@@ -239,3 +242,8 @@ fn add_to_both(
         }
     }
 }
+
+/// Each access of a graph that has a table of its cells names its cell in the one form of all its names.
+pub fn accesses_in_one_form()
+    ensures { (nodes : Items GraphNode) (cells : Items CellAccesses) → IsAccessTable nodes cells → (n : ℕ) (access : Access) → HasAccess nodes n access → plain_cell access.cell ≡ access.cell }
+{}

@@ -14,7 +14,7 @@ mod once_lists;
 pub use access_table::{AccessTable, Accessor, CellAccesses};
 pub use accesses::{Access, Cell, ObjName, in_one_form, one_form_is_by_sites};
 pub use chains::{Chain, Step, Word};
-pub use dependence_graph::{DependenceGraph, GraphFault, GraphNode};
+pub use dependence_graph::{DependenceGraph, GraphFault, GraphNode, accesses_in_one_form};
 pub use graphs::{Edge, Graph, NodeName};
 pub use jo_ids::SiteList;
 pub use kinds::{EdgeKind, NodeKind};

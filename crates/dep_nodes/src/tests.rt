@@ -49,6 +49,16 @@ fn counts(graph: &DependenceGraph) -> (usize, usize, usize)
     )
 }
 
+/// How many cells there are, and how many accesses the first has.
+fn listed(graph: &DependenceGraph) -> (usize, usize) {
+    let cells = graph.cells();
+    let accessors = match cells.first() {
+        Some(first) => first.accessors.as_slice().len(),
+        None => 0,
+    };
+    (cells.len(), accessors)
+}
+
 /// Two edges, a flow edge and two accesses, each added twice.
 fn filled(alloc: Global) -> Result<DependenceGraph, GraphFault>
     ensures { IfOk result (λ graph. length graph ≡ 2) }
@@ -77,6 +87,7 @@ fn what_is_added_twice_is_there_once(rt: HostRuntime) -> Result<(), Fail> {
     graph.add_flow(exit, entry)?;
     graph.add_flow(exit, entry)?;
     assert_eq!(rt; counts(&graph), (2, 1, 2));
+    assert_eq!(rt; listed(&graph), (1, 2));
     assert_eq!(rt; graph.edges_into(entry).len(), 0);
     assert!(rt; graph.node(exit).kind == NodeKind::Exit);
     Ok(())
