@@ -1,10 +1,9 @@
 -- The table of a graph's cells, as the graph grows.
 use Rattle.std.specs.List.{AllByRecursion}
-use Rattle.std.proofs.Common.{◌≡◌, ◌⊎◌, inl, inr, ℕ, ◌+◌, ◌<◌, Contains, get_or, List, [], ◌∷◌, ◌++◌, map, length, slice_get, slice_set, Option, Some, IsSomeAnd, refl, ap, sym, ◌∙◌, subst, arith}
+use Rattle.std.proofs.Common.{◌≡◌, ◌⊎◌, inl, inr, ℕ, ◌+◌, ◌<◌, Contains, get_or, List, [], ◌∷◌, ◌++◌, length, slice_get, slice_set, Option, Some, IsSomeAnd, refl, ap, sym, ◌∙◌, subst, arith}
 use Rattle.std.proofs.lemmas.List.Elements.{Contains-append_left, Contains-append_cases}
 use Rattle.dep_nodes.specs.declared.graphs.NodeName.{NodeName}
 use Rattle.dep_nodes.specs.declared.accesses.Access.{Access}
-use Rattle.dep_nodes.specs.declared.accesses.Cell.{Cell}
 use Rattle.dep_nodes.specs.declared.access_table.Accessor.{Accessor}
 use Rattle.dep_nodes.specs.declared.access_table.CellAccesses.{CellAccesses}
 use Rattle.dep_nodes.specs.declared.dependence_graph.GraphNode.{GraphNode}

@@ -11,7 +11,7 @@ use Rattle.dep_nodes.specs.declared.access_table.CellAccesses.{CellAccesses}
 use Rattle.dep_nodes.specs.OnceLists.{IsOnceEach}
 use Rattle.dep_nodes.specs.AccessTables.{IsListed, ListsAccess}
 use Rattle.dep_nodes.proofs.GrowingLemmas.{all_push, all_set, all_found}
-use Rattle.dep_nodes.proofs.OnceLemmas.{once_push, contains_at}
+use Rattle.dep_nodes.proofs.OnceLemmas.{once_push}
 
 -- ---- an item at a place, where one place is written or one item comes to the end
 

@@ -210,6 +210,7 @@ impl DependenceGraph {
     {
         self.nodes[node.number() as usize].accesses.as_slice()
     }
+
     /// The cells that some node accesses, each once in the order in which they were first accessed, each with its accesses in
     /// order of adding. It takes no memory.
     pub fn cells(&self) -> &[CellAccesses]
