@@ -1,14 +1,18 @@
 -- A dependence graph that grows: its nodes, each with the edges that end at it, the flow edges that begin at it and its
 -- accesses, each once and in order of adding (this project's own).
-use Rattle.std.specs.Prelude.{◌≡◌, ◌⊎◌, ℕ, ◌+◌, ◌≤◌, List, [], ◌∷◌, ◌++◌, Result, Ok, Err, length, Contains, slice_get, slice_set, IsSomeAnd}
-use Rattle.std.specs.List.{sum_by}
+use Rattle.std.specs.Prelude.{◌≡◌, ◌⊎◌, ℕ, ◌+◌, ◌<◌, ◌≤◌, List, [], ◌∷◌, ◌++◌, Result, Ok, Err, map, length, Contains, slice_get, slice_set, IsSomeAnd}
+use Rattle.std.specs.List.{sum_by, AllByRecursion}
 use Rattle.jo_ids.specs.declared.LimitKind.TheVariants.{M5}
 use Rattle.dep_nodes.specs.declared.kinds.EdgeKind.{EdgeKind}
 use Rattle.dep_nodes.specs.declared.graphs.NodeName.{NodeName}
 use Rattle.dep_nodes.specs.declared.accesses.Access.{Access}
+use Rattle.dep_nodes.specs.declared.access_table.CellAccesses.{CellAccesses}
 use Rattle.dep_nodes.specs.declared.dependence_graph.GraphNode.{GraphNode}
 use Rattle.dep_nodes.specs.declared.dependence_graph.GraphFault.{GraphFault}
 use Rattle.dep_nodes.specs.declared.dependence_graph.GraphFault.TheVariants.{Limit, Memory}
+use Rattle.dep_nodes.specs.OnceLists.{IsOnceEach}
+use Rattle.dep_nodes.specs.OneForm.{plain_cell}
+use Rattle.dep_nodes.specs.AccessTables.{IsListed}
 
 -- a node without edges and accesses
 abbrev pub bare : NodeName → GraphNode
@@ -30,11 +34,42 @@ HasMostNodes nodes = length nodes ≡ 400000
 abbrev pub HasMostEdges : List GraphNode → Type 0
 HasMostEdges nodes = graph_size nodes ≡ 40000000
 
--- the counts that a graph keeps, and its limits
-pub record IsWithinLimits (nodes : List GraphNode) (count : ℕ) (size : ℕ) : Type 0 where
+-- ---- which nodes edges name
+
+-- the beginnings of the edges into the node, and the ends of its flow edges, are below the count
+pub record IsInside (count : ℕ) (node : GraphNode) : Type 0 where
+  pub edges : AllByRecursion (λ edge. edge.0 < count) node.edges
+  pub flows : AllByRecursion (λ end. end < count) node.flows
+
+-- all edges are between nodes of the graph
+abbrev pub HasIdsInside : List GraphNode → Type 0
+HasIdsInside nodes = AllByRecursion (IsInside (length nodes)) nodes
+
+-- ---- the cells that nodes access
+
+abbrev pub HasAccess : List GraphNode → ℕ → Access → Type 0
+HasAccess nodes n access = IsSomeAnd (slice_get nodes n) (λ node. Contains node.accesses access)
+
+-- the access is listed at its cell
+abbrev pub HasAccessor : List CellAccesses → ℕ → Access → Type 0
+HasAccessor cells n access = IsListed cells access.cell (record { node = n; write = access.write })
+
+-- the cells are those that some node accesses, each once and in the one form of its names, with its accesses, each once
+pub record IsAccessTable (nodes : List GraphNode) (cells : List CellAccesses) : Type 0 where
+  pub listed : (n : ℕ) (access : Access) → HasAccess nodes n access → HasAccessor cells n access
+  pub there : (n : ℕ) (access : Access) → HasAccessor cells n access → HasAccess nodes n access
+  pub used : AllByRecursion (λ at. 0 < length at.accessors) cells
+  pub cells_once : IsOnceEach (map (λ at. at.cell) cells)
+  pub accessors_once : AllByRecursion (λ at. IsOnceEach at.accessors) cells
+  pub plain : AllByRecursion (λ at. plain_cell at.cell ≡ at.cell) cells
+
+-- the counts that a graph keeps, its limits, that its edges are between its nodes, and its table of cells
+pub record IsGrownGraph (nodes : List GraphNode) (cells : List CellAccesses) (count : ℕ) (size : ℕ) : Type 0 where
   pub nodes_within : count ≤ 400000
   pub counted : size ≡ graph_size nodes
   pub edges_within : size ≤ 40000000
+  pub inside : HasIdsInside nodes
+  pub table : IsAccessTable nodes cells
 
 -- the answer is the limit exactly where the graph is full
 abbrev pub IsLimitedWhere : {A : Type 0} → Result A GraphFault → Type 0 → Type 0
@@ -46,9 +81,6 @@ IsLimitedWhere (Err Memory) full = full → ⊥
 
 abbrev pub HasEdge : List GraphNode → ℕ → EdgeKind → ℕ → Type 0
 HasEdge nodes from kind to = IsSomeAnd (slice_get nodes to) (λ node. Contains node.edges (from, kind))
-
-abbrev pub HasAccess : List GraphNode → ℕ → Access → Type 0
-HasAccess nodes n access = IsSomeAnd (slice_get nodes n) (λ node. Contains node.accesses access)
 
 -- the new list has the item at its end, unless the old one has it
 abbrev pub AppendsNew : {A : Type 0} → List A → A → List A → Type 0

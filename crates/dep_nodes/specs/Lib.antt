@@ -1,5 +1,9 @@
+pub mod AccessTables
 pub mod ChainExamples
 pub mod Chains
 pub mod Graphs
 pub mod GrowingGraphs
+pub mod ItemKeys
 pub mod Nodes
+pub mod OnceLists
+pub mod OneForm

@@ -1,11 +1,18 @@
 //! The dependence graph, which grows by nodes, edges and accesses.
-ghost use Rattle.std.specs.Prelude.{◌≡◌, ◌↔◌, ◌<◌, ◌++◌, ◌∷◌, [], length, slice_get, option_map, Contains, IfOk, OnErr, OnOk, IsTrue};
-ghost use Rattle.dep_nodes.specs.GrowingGraphs.{bare, AddsEdge, AddsFlow, AddsAccess, HasEdge, HasAccess, IsLimitedWhere, HasMostNodes, HasMostEdges};
+ghost use Rattle.std.specs.Prelude.{◌≡◌, ◌↔◌, ℕ, List as Items, ◌<◌, ◌++◌, ◌∷◌, [], length, slice_get, option_map, All, Contains, IfOk, OnErr, OnOk, IsTrue};
+ghost use Rattle.dep_nodes.specs.OneForm.{plain_cell};
+ghost use Rattle.dep_nodes.specs.AccessTables.{ListsAccess};
+ghost use Rattle.dep_nodes.specs.declared.accesses.Access.{Access};
+ghost use Rattle.dep_nodes.specs.declared.access_table.CellAccesses.{CellAccesses};
+ghost use Rattle.dep_nodes.specs.declared.dependence_graph.GraphNode.{GraphNode};
+ghost use Rattle.dep_nodes.specs.GrowingGraphs.{bare, AddsEdge, AddsFlow, AddsAccess, HasEdge, HasAccess, IsAccessTable, IsLimitedWhere, HasMostNodes, HasMostEdges};
 
-use crate::accesses::{Access, Cell};
+use crate::access_table::{AccessTable, Accessor, CellAccesses};
+use crate::accesses::{Access, Cell, in_one_form};
 use crate::graphs::NodeName;
 use crate::kinds::EdgeKind;
-use jo_ids::{Id, LimitKind, List, Memory, NodeId};
+use crate::once_lists::OnceList;
+use jo_ids::{Id, LimitKind, Memory, NodeId};
 use std::alloc::Global;
 use std::marker::Model;
 
@@ -26,15 +33,17 @@ pub enum GraphFault {
 #[derive(Drop)]
 pub struct GraphNode {
     pub name: NodeName,
-    pub edges: List<(NodeId, EdgeKind)>,
-    pub flows: List<NodeId>,
-    pub accesses: List<Access>,
+    pub edges: OnceList<(NodeId, EdgeKind)>,
+    pub flows: OnceList<NodeId>,
+    pub accesses: OnceList<Access>,
 }
 
 /// A dependence graph, which contracts see as the list of its nodes.
 #[derive(Drop)]
 pub struct DependenceGraph {
     nodes: Vec<GraphNode>,
+    /// The cells that the nodes access, each with its accesses.
+    cells: AccessTable,
     /// How many edges and accesses the nodes have together.
     size: u32,
     alloc: Global,
@@ -43,13 +52,13 @@ pub struct DependenceGraph {
 impl Model for DependenceGraph {
     ghost use Rattle.std.specs.Prelude.{List as Items};
     ghost use Rattle.dep_nodes.specs.declared.dependence_graph.GraphNode.{GraphNode};
-    ghost use Rattle.dep_nodes.specs.GrowingGraphs.{IsWithinLimits};
+    ghost use Rattle.dep_nodes.specs.GrowingGraphs.{IsGrownGraph};
 
     ghost Value = { Items GraphNode };
 
     ghost view = { λ g. g.nodes.items };
 
-    ghost invariant = { λ g. IsWithinLimits g.nodes.items g.nodes.len g.size };
+    ghost invariant = { λ g. IsGrownGraph g.nodes.items g.cells g.nodes.len g.size };
 }
 
 impl DependenceGraph {
@@ -59,6 +68,7 @@ impl DependenceGraph {
     {
         DependenceGraph {
             nodes: Vec::new(alloc),
+            cells: AccessTable::new(alloc),
             size: 0,
             alloc,
         }
@@ -77,9 +87,9 @@ impl DependenceGraph {
         }
         let node = GraphNode {
             name,
-            edges: List::new(self.alloc),
-            flows: List::new(self.alloc),
-            accesses: List::new(self.alloc),
+            edges: OnceList::new(self.alloc),
+            flows: OnceList::new(self.alloc),
+            accesses: OnceList::new(self.alloc),
         };
         match self.nodes.push(node) {
             Ok(()) => Ok(Id::of(number as u32)),
@@ -97,13 +107,13 @@ impl DependenceGraph {
         ensures limit { IsLimitedWhere result (HasMostEdges self.old × ¬ (HasEdge self.old from kind to)) }
     {
         let node = &mut self.nodes[to.number() as usize];
-        if has_edge(node.edges.as_slice(), from, kind) {
+        if node.edges.has(&(from, kind)) {
             return Ok(());
         }
         if self.size >= MOST_EDGES {
             return Err(GraphFault::Limit(LimitKind::M5));
         }
-        match node.edges.push((from, kind)) {
+        match node.edges.push_new((from, kind)) {
             Ok(()) => {
                 self.size += 1;
                 Ok(())
@@ -121,32 +131,37 @@ impl DependenceGraph {
         ensures err { OnErr result (self.new ≡ self.old) }
     {
         let node = &mut self.nodes[from.number() as usize];
-        if has_flow(node.flows.as_slice(), to) {
+        if node.flows.has(&to) {
             return Ok(());
         }
-        match node.flows.push(to) {
+        match node.flows.push_new(to) {
             Ok(()) => Ok(()),
-            Err((_, memory)) => Err(memory),
+            Err(memory) => Err(memory),
         }
     }
 
-    /// Adds the access behind those of the same node, unless it is there.
+    /// Adds the access behind those of the same node, unless it is there. Its cell is kept in the one form of a cell, so two
+    /// names of one cell are one access.
     pub fn add_access(&mut self, node: NodeId, cell: Cell, write: bool) -> Result<(), GraphFault>
         requires { node < length self.old }
-        ensures ok { OnOk result (AddsAccess self.old self.new node (record { cell = cell; write = write })) }
+        ensures ok { OnOk result (AddsAccess self.old self.new node (record { cell = plain_cell cell; write = write })) }
         ensures count { length self.new ≡ length self.old }
         ensures err { OnErr result (self.new ≡ self.old) }
-        ensures limit { IsLimitedWhere result (HasMostEdges self.old × ¬ (HasAccess self.old node (record { cell = cell; write = write }))) }
+        ensures limit { IsLimitedWhere result (HasMostEdges self.old × ¬ (HasAccess self.old node (record { cell = plain_cell cell; write = write }))) }
     {
-        let access = Access { cell, write };
+        let access = Access {
+            cell: in_one_form(&cell),
+            write,
+        };
+        let accessor = Accessor { node, write };
         let node = &mut self.nodes[node.number() as usize];
-        if has_access(node.accesses.as_slice(), &access) {
+        if node.accesses.has(&access) {
             return Ok(());
         }
         if self.size >= MOST_EDGES {
             return Err(GraphFault::Limit(LimitKind::M5));
         }
-        match node.accesses.push(access) {
+        match add_to_both(&mut node.accesses, access, &mut self.cells, accessor) {
             Ok(()) => {
                 self.size += 1;
                 Ok(())
@@ -173,7 +188,8 @@ impl DependenceGraph {
     /// The dependence edges that end at a node, each with its beginning, in order of adding.
     pub fn edges_into(&self, node: NodeId) -> &[(NodeId, EdgeKind)]
         requires { node < length self.now }
-        ensures { option_map (λ n. n.edges) (slice_get self.now node) ≡ Some result.now }
+        ensures edges { option_map (λ n. n.edges) (slice_get self.now node) ≡ Some result.now }
+        ensures inside { All (λ edge. edge.0 < length self.now) result.now }
     {
         self.nodes[node.number() as usize].edges.as_slice()
     }
@@ -181,7 +197,8 @@ impl DependenceGraph {
     /// The ends of the flow edges that begin at a node, in order of adding.
     pub fn flows_from(&self, node: NodeId) -> &[NodeId]
         requires { node < length self.now }
-        ensures { option_map (λ n. n.flows) (slice_get self.now node) ≡ Some result.now }
+        ensures flows { option_map (λ n. n.flows) (slice_get self.now node) ≡ Some result.now }
+        ensures inside { All (λ end. end < length self.now) result.now }
     {
         self.nodes[node.number() as usize].flows.as_slice()
     }
@@ -193,25 +210,41 @@ impl DependenceGraph {
     {
         self.nodes[node.number() as usize].accesses.as_slice()
     }
+
+    /// The cells that some node accesses, each once in the order in which they were first accessed, each with its accesses in
+    /// order of adding. It takes no memory.
+    pub fn cells(&self) -> &[CellAccesses]
+        ensures { IsAccessTable self.now result.now }
+    {
+        self.cells.as_slice()
+    }
 }
 
-/// Whether the edge is one of these.
-fn has_edge(edges: &[(NodeId, EdgeKind)], from: NodeId, kind: EdgeKind) -> bool
-    ensures { IsTrue result ↔ Contains edges.now (from, kind) }
+/// Adds an access to those of its node, which lack it, and to those of its cell; where memory is wanted, to neither.
+fn add_to_both(
+    accesses: &mut OnceList<Access>,
+    access: Access,
+    cells: &mut AccessTable,
+    accessor: Accessor,
+) -> Result<(), Memory>
+    requires { Contains accesses.old access → ⊥ }
+    ensures node { OnOk result (accesses.new ≡ accesses.old ++ access ∷ []) }
+    ensures cell { OnOk result (ListsAccess cells.old cells.new access.cell accessor) }
+    ensures err { OnErr result (accesses.new ≡ accesses.old) }
+    ensures err_cell { OnErr result (cells.new ≡ cells.old) }
 {
-    edges.contains(&(from, kind))
+    let cell = access.cell;
+    accesses.push_new(access)?;
+    match cells.add(cell, accessor) {
+        Ok(()) => Ok(()),
+        Err(memory) => {
+            accesses.drop_last();
+            Err(memory)
+        }
+    }
 }
 
-/// Whether the node is one of these.
-fn has_flow(flows: &[NodeId], to: NodeId) -> bool
-    ensures { IsTrue result ↔ Contains flows.now to }
-{
-    flows.contains(&to)
-}
-
-/// Whether the access is one of these.
-fn has_access(accesses: &[Access], access: &Access) -> bool
-    ensures { IsTrue result ↔ Contains accesses.now access.now }
-{
-    accesses.contains(access)
-}
+/// Each access of a graph that has a table of its cells names its cell in the one form of all its names.
+pub fn accesses_in_one_form()
+    ensures { (nodes : Items GraphNode) (cells : Items CellAccesses) → IsAccessTable nodes cells → (n : ℕ) (access : Access) → HasAccess nodes n access → plain_cell access.cell ≡ access.cell }
+{}
