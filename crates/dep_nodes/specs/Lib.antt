@@ -3,3 +3,4 @@ pub mod Chains
 pub mod Graphs
 pub mod GrowingGraphs
 pub mod Nodes
+pub mod NumberedChains

@@ -1,10 +1,12 @@
 //! Laws of the definitions. Each function is empty: what it ensures is the law.
-ghost use Rattle.std.specs.Prelude.{◌≡◌, List, [], ◌∷◌, ◌++◌};
+ghost use Rattle.std.specs.Prelude.{◌≡◌, ℕ, List, [], ◌∷◌, ◌++◌};
 ghost use Rattle.std.specs.List.{AllByRecursion};
+ghost use Rattle.dep_nodes.specs.declared.dependence_graph.GraphNode.{GraphNode};
 ghost use Rattle.dep_nodes.specs.declared.graphs.Graph.{Graph};
 ghost use Rattle.dep_nodes.specs.Chains.{Link, HasChain, HasEdgeChain, IsChainFrom, LeavesOpen, Matched, IsMatched, IsEdge, end_of, pass_to, path_links};
 ghost use Rattle.dep_nodes.specs.Graphs.{GraphEdge};
 ghost use Rattle.dep_nodes.specs.Nodes.{Node, CallSite};
+ghost use Rattle.dep_nodes.specs.NumberedChains.{HasNumberedChain, HasNumberedEdgeChain};
 
 /// Any edges between nodes.
 pub trait Edges {
@@ -18,6 +20,11 @@ pub trait Edges {
 /// alone does.
 pub fn passes_are_paths()
     ensures { (graph : Graph) (from to : Node) → HasChain (GraphEdge graph) from to → HasEdgeChain (GraphEdge graph) from to }
+{}
+
+/// The same from number to number of a graph that grows.
+pub fn numbered_passes_are_paths()
+    ensures { (nodes : List GraphNode) (from to : ℕ) → HasNumberedChain nodes from to → HasNumberedEdgeChain nodes from to }
 {}
 
 /// A chain, and one from its end on with the calls that it leaves open, are a chain.
