@@ -3,7 +3,6 @@
 use Rattle.std.specs.Prelude.{◌≡◌, ◌↔◌, ℕ, List, [], Option, Some, None, length, Contains, slice_get, slice_index_or}
 use Rattle.std.specs.List.Sorted.{IsStrictlyIncreasing}
 use Rattle.dep_nodes.specs.declared.kinds.NodeKind.TheVariants.{Entry}
-use Rattle.dep_nodes.specs.declared.kinds.EdgeKind.{EdgeKind}
 use Rattle.dep_nodes.specs.declared.dependence_graph.GraphNode.{GraphNode}
 use Rattle.dep_nodes.specs.Nodes.{Node, CallSite, node, node_named}
 use Rattle.dep_nodes.specs.Chains.{LinkTo, MatchedOver, IsMatchedOver, IsPassOver, IsChainOver, HasChainOver, HasEdgeChainOver}
