@@ -1,5 +1,5 @@
 -- Steps that add to a set, one after the other.
-use Rattle.std.proofs.Common.{◌≡◌, ◌↔◌, ◌⊎◌, ℕ, ◌+◌, ◌<◌, ◌≤◌, List, [], ◌∷◌, ◌++◌, length, get_or, take, Contains, sym, subst, inl, inr, arith}
+use Rattle.std.proofs.Common.{◌≡◌, ◌↔◌, ◌⊎◌, ℕ, ◌+◌, ◌-◌, ◌<◌, ◌≤◌, List, [], ◌∷◌, ◌++◌, length, get_or, take, Contains, sym, subst, inl, inr, arith}
 use Rattle.std.proofs.lemmas.Bool.{cases_eq}
 use Rattle.std.proofs.lemmas.List.{take_more, take_all}
 use Rattle.std.proofs.lemmas.List.Elements.{Contains-append_left, Contains-push, Contains-push_cases}
@@ -33,6 +33,18 @@ below_more {X} n makes x = (there, back)
     back : FromBelow n makes x ⊎ makes n x → FromBelow (n + 1) makes x
     back (inl (k, below, made)) = (k, omega (arith, below), made)
     back (inr made) = (n, omega arith, made)
+
+-- the same numbers from the end
+pub below_turned : {X : Type 0} (n : ℕ) (makes : ℕ → X → Type 0) (x : X) → FromBelow n (λ k. makes (n - 1 - k)) x ↔ FromBelow n makes x
+below_turned {X} n makes x = (there, back)
+  where
+    there : FromBelow n (λ k. makes (n - 1 - k)) x → FromBelow n makes x
+    there (k, below, made) = (n - 1 - k, omega (arith, below), made)
+
+    back : FromBelow n makes x → FromBelow n (λ k. makes (n - 1 - k)) x
+    back (k, below, made) =
+        let e : k ≡ n - 1 - (n - 1 - k) = omega (arith, below) in
+        (n - 1 - k, omega (arith, below), subst (λ m. makes m x) e made)
 
 module _ {X : Type 0} where
   pub adds_none : (S P : X → Type 0) → ((x : X) → P x → ⊥) → Adds S S P

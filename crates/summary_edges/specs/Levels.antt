@@ -12,7 +12,7 @@ use Rattle.summary_edges.specs.declared.joins.Join.{Join}
 use Rattle.summary_edges.specs.declared.joins.Sides.{Sides}
 use Rattle.summary_edges.specs.declared.levels.Way.{Way}
 use Rattle.summary_edges.specs.declared.levels.Way.TheVariants.{Begins, Ends}
-use Rattle.summary_edges.specs.Adds.{From}
+use Rattle.summary_edges.specs.Adds.{Adds, From}
 use Rattle.summary_edges.specs.Calls.{one_call, row_of_node}
 
 -- ---- edges by what they do
@@ -48,6 +48,14 @@ way_test Ends = ends_call
 abbrev pub MakesEdge : (EdgeKind → Bool) → ℕ → ℕ → ℕ × EdgeKind → ℕ × ℕ → Type 0
 MakesEdge test count to edge pair = (test edge.1 ≡ true) × (edge.0 < count) × (pair ≡ (edge.0, to))
 
+-- the new graph has more edges, as pairs of beginning and end
+abbrev pub AddsEdges : List (List ℕ) → List (List ℕ) → (ℕ × ℕ → Type 0) → Type 0
+AddsEdges old new = Adds (λ (p : ℕ × ℕ). Leads old p.0 p.1) (λ (p : ℕ × ℕ). Leads new p.0 p.1)
+
+-- the same, turned round
+abbrev pub AddsTurned : List (List ℕ) → List (List ℕ) → (ℕ × ℕ → Type 0) → Type 0
+AddsTurned old new = Adds (λ (p : ℕ × ℕ). Leads old p.1 p.0) (λ (p : ℕ × ℕ). Leads new p.1 p.0)
+
 -- exactly the edges with such a word, as the ends by the beginnings
 pub record AreEdgesLike (nodes : List GraphNode) (test : EdgeKind → Bool) (rows : List (List ℕ)) : Type 0 where
   pub same_length : length rows ≡ length nodes
@@ -66,14 +74,20 @@ joined from into out to = record { from = from; into = into; out = out; to = to 
 
 -- ---- joins as they are found
 
+abbrev pub AddsJoins : List Join → List Join → (Join → Type 0) → Type 0
+AddsJoins old new = Adds (Contains old) (Contains new)
+
 -- the joins with this return that begin at a node, by the edges from there
 abbrev pub JoinsFrom : List GraphNode → Sides → ℕ → ℕ → ℕ → Join → Type 0
 JoinsFrom nodes sides out to from join =
-    (from < length nodes) × (one_call (name_at nodes from) (name_at nodes to) ≡ true) × From (slice_index_or sides.openings from []) (λ into j. j ≡ joined from into out to) join
+    (from < length nodes) × (one_call (name_at nodes from) (name_at nodes to) ≡ true)
+    × From (slice_index_or sides.openings from []) (λ into j. j ≡ joined from into out to) join
 
 -- the joins with this return, by the row of its call
 abbrev pub JoinsTo : List GraphNode → Sides → ℕ → ℕ → Join → Type 0
-JoinsTo nodes sides out to join = (row : ℕ) × (row_of_node (length nodes) (name_at nodes to) ≡ Some row) × From (slice_index_or sides.calls row []) (JoinsFrom nodes sides out to) join
+JoinsTo nodes sides out to join =
+    (row : ℕ) × (row_of_node (length nodes) (name_at nodes to) ≡ Some row)
+    × From (slice_index_or sides.calls row []) (JoinsFrom nodes sides out to) join
 
 -- the joins with this return, where it ends in the graph
 abbrev pub JoinsInside : List GraphNode → Sides → ℕ → ℕ → Join → Type 0
@@ -117,11 +131,13 @@ Leading true join old new left new_left = AddsEdge old new join.to join.from × 
 Leading false join old new left new_left = (new ≡ old) × (new_left ≡ left ++ join ∷ [])
 
 -- Each of the joins is led over or left. Where none was led over, none leads through.
-pub record IsRound (nodes : List GraphNode) (joins : List Join) (old new : List (List ℕ)) (left : List Join) : Type 0 where
+pub record IsRound (nodes : List GraphNode) (joins : List Join) (old new : List (List ℕ)) (left : List Join)
+    : Type 0 where
   pub same_length : length new ≡ length old
   pub keeps : KeepsEdges old new
   pub matched : AreMatched nodes new
   pub left_of : (join : Join) → Contains left join → Contains joins join
   pub led : (join : Join) → Contains joins join → Contains left join ⊎ Leads new join.to join.from
   pub fewer : length left ≤ length joins
-  pub quiet : length left ≡ length joins → (join : Join) → Contains joins join → Path (Leads new) join.out join.into → ⊥
+  pub quiet : length left ≡ length joins → (join : Join) → Contains joins join
+      → Path (Leads new) join.out join.into → ⊥

@@ -9,7 +9,9 @@ use Rattle.summary_edges.specs.Calls.{one_call}
 
 -- whether values go at this number into the call that comes out at the end, and it was found
 abbrev pub pairs_with : List GraphNode → List Bool → ℕ → ℕ → Bool
-pairs_with nodes found to from = goes_in (name_at nodes from).kind && (one_call (name_at nodes from) (name_at nodes to) && has_number found from)
+pairs_with nodes found to from =
+    goes_in (name_at nodes from).kind
+    && (one_call (name_at nodes from) (name_at nodes to) && has_number found from)
 
 -- the beginnings of the pairs that end at a node, each once and in order
 pub record IsPairRow (nodes : List GraphNode) (to : ℕ) (row : List ℕ) : Type 0 where

@@ -1,8 +1,8 @@
 //! Where calls begin and where they end.
 ghost use Rattle.std.specs.Prelude.{◌≡◌, ◌↔◌, ◌<◌, true, length, slice_index_or, [], Contains, IfOk, OnOk};
-ghost use Rattle.summary_edges.specs.Adds.{Adds, From};
+ghost use Rattle.summary_edges.specs.Adds.{From};
 ghost use Rattle.summary_edges.specs.Calls.{IsCallTable};
-ghost use Rattle.summary_edges.specs.Levels.{AreEdgesLike, IsJoin, begins_call, ends_call, joined, JoinsFrom, JoinsTo, JoinsInside, JoinsOut};
+ghost use Rattle.summary_edges.specs.Levels.{AddsJoins, AreEdgesLike, IsJoin, begins_call, ends_call, joined, JoinsFrom, JoinsTo, JoinsInside, JoinsOut};
 ghost use Rattle.summary_edges.specs.declared.joins.Join.{Join as JoinOf};
 
 use crate::calls::{call_row, same_call};
@@ -39,7 +39,8 @@ fn join_each(
     out: NodeId,
     to: NodeId,
 ) -> Result<(), Memory>
-    ensures { OnOk result (Adds (λ j. Contains joins.old.items j) (λ j. Contains joins.new.items j) (From intos.now (λ into j. j ≡ joined from into out to))) }
+    ensures { OnOk result (
+        AddsJoins joins.old.items joins.new.items (From intos.now (λ into j. j ≡ joined from into out to))) }
 {
     for into in intos {
         joins.push(Join {
@@ -62,7 +63,8 @@ fn join_from(
     to: NodeId,
 ) -> Result<(), Memory>
     requires { to < length graph.now }
-    ensures { OnOk result (Adds (λ j. Contains joins.old.items j) (λ j. Contains joins.new.items j) (JoinsFrom graph.now sides.now out to from)) }
+    ensures { OnOk result (
+        AddsJoins joins.old.items joins.new.items (JoinsFrom graph.now sides.now out to from)) }
 {
     let number = from.number();
     if number >= graph.len() {
@@ -87,7 +89,7 @@ fn join_return(
     to: NodeId,
 ) -> Result<(), Memory>
     requires { to < length graph.now }
-    ensures { OnOk result (Adds (λ j. Contains joins.old.items j) (λ j. Contains joins.new.items j) (JoinsTo graph.now sides.now out to)) }
+    ensures { OnOk result (AddsJoins joins.old.items joins.new.items (JoinsTo graph.now sides.now out to)) }
 {
     let Some(row) = call_row(graph.node(to), graph.len()) else {
         return Ok(());
@@ -106,7 +108,8 @@ fn join_return_inside(
     out: NodeId,
     to: NodeId,
 ) -> Result<(), Memory>
-    ensures { OnOk result (Adds (λ j. Contains joins.old.items j) (λ j. Contains joins.new.items j) (JoinsInside graph.now sides.now out to)) }
+    ensures { OnOk result (
+        AddsJoins joins.old.items joins.new.items (JoinsInside graph.now sides.now out to)) }
 {
     if to.number() >= graph.len() {
         return Ok(());
@@ -122,7 +125,7 @@ fn join_returns(
     sides: &Sides,
     out: NodeId,
 ) -> Result<(), Memory>
-    ensures { OnOk result (Adds (λ j. Contains joins.old.items j) (λ j. Contains joins.new.items j) (JoinsOut graph.now sides.now out)) }
+    ensures { OnOk result (AddsJoins joins.old.items joins.new.items (JoinsOut graph.now sides.now out)) }
 {
     for to in sides.returns.at(out.number()) {
         join_return_inside(joins, graph, sides, out, *to)?;
@@ -130,7 +133,8 @@ fn join_returns(
     Ok(())
 }
 
-/// All joins of a graph, those with one return's beginning one after the other.
+/// All joins of a graph, those with one return's beginning one after the other. What is called mostly has the greater
+/// numbers, so it comes first.
 pub fn joins(alloc: Global, graph: &DependenceGraph, sides: &Sides) -> Result<Vec<Join>, Memory>
     requires openings { AreEdgesLike graph.now begins_call sides.now.openings }
     requires returns { AreEdgesLike graph.now ends_call sides.now.returns }
@@ -138,8 +142,9 @@ pub fn joins(alloc: Global, graph: &DependenceGraph, sides: &Sides) -> Result<Ve
     ensures { IfOk result (λ joins. (j : JoinOf) → Contains joins.items j ↔ IsJoin graph.now j) }
 {
     let mut joins = Vec::new(alloc);
-    for out in 0..graph.len() {
-        join_returns(&mut joins, graph, sides, Id::of(out))?;
+    let count = graph.len();
+    for k in 0..count {
+        join_returns(&mut joins, graph, sides, Id::of(count - 1 - k))?;
     }
     Ok(joins)
 }

@@ -1,8 +1,7 @@
 //! The edges of a graph by what they do.
 ghost use Rattle.std.specs.Prelude.{◌≡◌, ◌<◌, length, IfOk, OnOk};
-ghost use Rattle.jo_graph.specs.Graphs.{HasEdge as Leads};
-ghost use Rattle.summary_edges.specs.Adds.{Adds, From};
-ghost use Rattle.summary_edges.specs.Levels.{stays_level as is_level, AreEdgesLike, AreLevels, MakesEdge, way_test};
+ghost use Rattle.summary_edges.specs.Adds.{From};
+ghost use Rattle.summary_edges.specs.Levels.{stays_level as is_level, AddsEdges, AddsTurned, AreEdgesLike, AreLevels, MakesEdge, way_test};
 
 use crate::rows::Rows;
 use dep_nodes::{DependenceGraph, EdgeKind};
@@ -44,7 +43,7 @@ fn add_level(
 ) -> Result<(), Memory>
     requires count { count ≡ length levels.old }
     requires to { to < count }
-    ensures ok { OnOk result (Adds (λ p. Leads levels.old p.1 p.0) (λ p. Leads levels.new p.1 p.0) (MakesEdge is_level count to edge.now)) }
+    ensures ok { OnOk result (AddsTurned levels.old levels.new (MakesEdge is_level count to edge.now)) }
     ensures length { length levels.new ≡ length levels.old }
 {
     let from = edge.0.number();
@@ -67,7 +66,8 @@ fn add_levels(
 ) -> Result<(), Memory>
     requires count { count ≡ length levels.old }
     requires to { to < count }
-    ensures ok { OnOk result (Adds (λ p. Leads levels.old p.1 p.0) (λ p. Leads levels.new p.1 p.0) (From edges.now (λ e p. MakesEdge is_level count to e p))) }
+    ensures ok { OnOk result (
+        AddsTurned levels.old levels.new (From edges.now (MakesEdge is_level count to))) }
     ensures length { length levels.new ≡ length levels.old }
 {
     for edge in edges {
@@ -97,7 +97,7 @@ fn add_edge(
     to: u32,
 ) -> Result<(), Memory>
     requires count { count ≡ length rows.old }
-    ensures ok { OnOk result (Adds (λ p. Leads rows.old p.0 p.1) (λ p. Leads rows.new p.0 p.1) (MakesEdge (way_test way) count to edge.now)) }
+    ensures ok { OnOk result (AddsEdges rows.old rows.new (MakesEdge (way_test way) count to edge.now)) }
     ensures length { length rows.new ≡ length rows.old }
 {
     let from = edge.0.number();
@@ -120,7 +120,8 @@ fn add_edges(
     to: u32,
 ) -> Result<(), Memory>
     requires count { count ≡ length rows.old }
-    ensures ok { OnOk result (Adds (λ p. Leads rows.old p.0 p.1) (λ p. Leads rows.new p.0 p.1) (From edges.now (λ e p. MakesEdge (way_test way) count to e p))) }
+    ensures ok { OnOk result (
+        AddsEdges rows.old rows.new (From edges.now (MakesEdge (way_test way) count to))) }
     ensures length { length rows.new ≡ length rows.old }
 {
     for edge in edges {

@@ -10,3 +10,6 @@ mod rows;
 
 pub use pairs::summaries;
 pub use rows::Summaries;
+
+#[cfg(test)]
+mod tests;

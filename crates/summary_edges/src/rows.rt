@@ -35,7 +35,8 @@ impl Rows {
     /// Adds the node at the end of the list with that number.
     pub fn add(&mut self, number: u32, node: NodeId) -> Result<(), Memory>
         requires { number < length self.old }
-        ensures ok { OnOk result (self.new ≡ slice_set self.old number (slice_index_or self.old number [] ++ node ∷ [])) }
+        ensures ok { OnOk result (
+            self.new ≡ slice_set self.old number (slice_index_or self.old number [] ++ node ∷ [])) }
         ensures length { length self.new ≡ length self.old }
     {
         match self.rows[number as usize].push(node) {

@@ -1,23 +1,26 @@
-use Rattle.std.proofs.Common.{[], ◌≡◌, List, length, Contains, sym, subst, arith}
+use Rattle.std.proofs.Common.{[], ◌≡◌, ◌-◌, List, length, Contains, sym, subst, arith}
 use Rattle.summary_edges.specs.declared.joins.Join.{Join}
 use Rattle.summary_edges.specs.Adds.{Adds, FromBelow}
 use Rattle.summary_edges.specs.Levels.{JoinsOut}
-use Rattle.summary_edges.proofs.AddsLemmas.{below_none, below_step}
+use Rattle.summary_edges.proofs.AddsLemmas.{adds_alike, below_none, below_step, below_turned}
 use Rattle.summary_edges.proofs.JoinLemmas.{all_joins}
 use Rattle.summary_edges.proofs.joins.joins.Goals as goal
 
-pub loop-out-init : goal.loop-out-init
-loop-out-init c =
-    subst (λ (items : List Join). Adds (Contains []) (Contains items) (FromBelow 0 (JoinsOut c.args.graph.now c.args.sides.now))) (sym c.new-joins.ensures.items)
-    (below_none (Contains []) (JoinsOut c.args.graph.now c.args.sides.now))
+pub loop-k-init : goal.loop-k-init
+loop-k-init c =
+    subst (λ (items : List Join). Adds (Contains []) (Contains items) (FromBelow 0 (λ k. JoinsOut c.args.graph.now c.args.sides.now (length c.args.graph.now - 1 - k)))) (sym c.new-joins.ensures.items)
+    (below_none (Contains []) (λ k. JoinsOut c.args.graph.now c.args.sides.now (length c.args.graph.now - 1 - k)))
 
-pub loop-out-preserved : goal.loop-out-preserved
-loop-out-preserved c =
-    below_step (Contains []) (Contains c.loop-out.joins.items) (Contains c.join_returns.new.joins.items) c.loop-out.out (JoinsOut c.args.graph.now c.args.sides.now) c.loop-out.invariant
-    (subst (λ k. Adds (Contains c.loop-out.joins.items) (Contains c.join_returns.new.joins.items) (JoinsOut c.args.graph.now c.args.sides.now k)) c.of.ensures c.in_ok-join_returns.ensures)
+pub loop-k-preserved : goal.loop-k-preserved
+loop-k-preserved c =
+    let e : c.of.result ≡ length c.args.graph.now - 1 - c.loop-k.k = omega arith in
+    below_step (Contains []) (Contains c.loop-k.joins.items) (Contains c.join_returns.new.joins.items) c.loop-k.k (λ k. JoinsOut c.args.graph.now c.args.sides.now (length c.args.graph.now - 1 - k)) c.loop-k.invariant
+    (subst (λ m. Adds (Contains c.loop-k.joins.items) (Contains c.join_returns.new.joins.items) (JoinsOut c.args.graph.now c.args.sides.now m)) e c.in_ok-join_returns.ensures)
 
 pub returns : goal.returns
 returns c =
-    let all : c.loop-out.out ≡ length c.args.graph.now = omega arith in
-    all_joins c.args.graph.now c.args.sides.now c.requires.openings c.requires.returns c.requires.calls (Contains c.loop-out.joins.items)
-    (subst (λ n. Adds (Contains []) (Contains c.loop-out.joins.items) (FromBelow n (JoinsOut c.args.graph.now c.args.sides.now))) all c.loop-out.invariant)
+    let all : c.loop-k.k ≡ length c.args.graph.now = omega arith in
+    all_joins c.args.graph.now c.args.sides.now c.requires.openings c.requires.returns c.requires.calls (Contains c.loop-k.joins.items)
+    (adds_alike (Contains []) (Contains c.loop-k.joins.items) (FromBelow (length c.args.graph.now) (λ m. JoinsOut c.args.graph.now c.args.sides.now (length c.args.graph.now - 1 - m))) (FromBelow (length c.args.graph.now) (JoinsOut c.args.graph.now c.args.sides.now))
+    (subst (λ n. Adds (Contains []) (Contains c.loop-k.joins.items) (FromBelow n (λ m. JoinsOut c.args.graph.now c.args.sides.now (length c.args.graph.now - 1 - m)))) all c.loop-k.invariant)
+    (below_turned (length c.args.graph.now) (JoinsOut c.args.graph.now c.args.sides.now)))
