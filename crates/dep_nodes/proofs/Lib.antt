@@ -1,3 +1,5 @@
+pub mod BalancedLemmas
 pub mod ChainLemmas
 pub mod GrowingLemmas
 pub mod Passes
+pub mod Sites

@@ -1,3 +1,4 @@
+pub mod BalancedPaths
 pub mod ChainExamples
 pub mod Chains
 pub mod Graphs

@@ -1,9 +1,10 @@
 //! Laws of the definitions. Each function is empty: what it ensures is the law.
-ghost use Rattle.std.specs.Prelude.{◌≡◌, ℕ, List, [], ◌∷◌, ◌++◌};
+ghost use Rattle.std.specs.Prelude.{◌≡◌, ◌↔◌, ℕ, List, [], ◌∷◌, ◌++◌};
 ghost use Rattle.std.specs.List.{AllByRecursion};
 ghost use Rattle.dep_nodes.specs.declared.dependence_graph.GraphNode.{GraphNode};
 ghost use Rattle.dep_nodes.specs.declared.graphs.Graph.{Graph};
-ghost use Rattle.dep_nodes.specs.Chains.{Link, HasChain, HasEdgeChain, IsChainFrom, LeavesOpen, Matched, IsMatched, IsEdge, end_of, pass_to, path_links};
+ghost use Rattle.dep_nodes.specs.BalancedPaths.{Balanced};
+ghost use Rattle.dep_nodes.specs.Chains.{Link, HasChain, HasEdgeChain, IsChainFrom, LeavesOpen, Matched, IsMatched, IsEdge, end_of, itself, pass_to, path_links};
 ghost use Rattle.dep_nodes.specs.Graphs.{GraphEdge};
 ghost use Rattle.dep_nodes.specs.Nodes.{Node, CallSite};
 ghost use Rattle.dep_nodes.specs.NumberedChains.{HasNumberedChain, HasNumberedEdgeChain};
@@ -52,4 +53,9 @@ pub fn paths_stand_for_passes<E: Edges>()
 pub fn matched_paths_compose<E: Edges>()
     ensures paths { (a b c : Node) → IsMatched E.leads a b → IsMatched E.leads b c → IsMatched E.leads a c }
     ensures rests { (calls under : List CallSite) (a b c : Node) → Matched E.leads calls a b → Matched E.leads under b c → Matched E.leads (calls ++ under) a c }
+{}
+
+/// Matched paths are those of the grammar of brackets.
+pub fn matched_paths_are_balanced<E: Edges>()
+    ensures { (from to : Node) → IsMatched E.leads from to ↔ Balanced itself E.leads from to }
 {}

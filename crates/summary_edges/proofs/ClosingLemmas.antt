@@ -10,7 +10,8 @@ use Rattle.jo_graph.specs.Graphs.{HasEdge as Leads, AddsEdge, IsReach}
 use Rattle.dep_nodes.specs.declared.dependence_graph.GraphNode.{GraphNode}
 use Rattle.dep_nodes.specs.NumberedChains.{IsNumberedMatched}
 use Rattle.summary_edges.specs.declared.joins.Join.{Join}
-use Rattle.summary_edges.specs.Levels.{stays_level, HasEdgeLike, IsJoin, AreLevels, AreMatched, KeepsEdges, AreClosed, Leading, IsRound}
+use Rattle.dep_nodes.specs.BalancedPaths.{stays_level}
+use Rattle.summary_edges.specs.Levels.{HasEdgeLike, IsJoin, AreLevels, AreMatched, KeepsEdges, AreClosed, Leading, IsRound}
 use Rattle.summary_edges.proofs.CallLemmas.{ends_inside}
 use Rattle.summary_edges.proofs.ClosedPaths.{join_matched, level_matched, path_matched}
 

@@ -9,7 +9,8 @@ use Rattle.dep_nodes.specs.declared.kinds.EdgeKind.{EdgeKind}
 use Rattle.dep_nodes.specs.declared.dependence_graph.GraphNode.{GraphNode}
 use Rattle.dep_nodes.specs.GrowingGraphs.{HasEdge}
 use Rattle.summary_edges.specs.Adds.{Adds, From, FromBelow}
-use Rattle.summary_edges.specs.Levels.{stays_level, MakesEdge, HasEdgeLike, AreEdgesLike, AreLevels}
+use Rattle.dep_nodes.specs.BalancedPaths.{stays_level}
+use Rattle.summary_edges.specs.Levels.{MakesEdge, HasEdgeLike, AreEdgesLike, AreLevels}
 use Rattle.summary_edges.proofs.AddsLemmas.{adds_none, adds_alike}
 use Rattle.summary_edges.proofs.CallLemmas.{ends_inside}
 

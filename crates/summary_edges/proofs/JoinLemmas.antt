@@ -6,13 +6,15 @@ use Rattle.dep_nodes.specs.declared.graphs.NodeName.{NodeName}
 use Rattle.dep_nodes.specs.declared.dependence_graph.GraphNode.{GraphNode}
 use Rattle.dep_nodes.specs.Nodes.{call_site, node_named}
 use Rattle.dep_nodes.specs.NumberedChains.{name_at}
+use Rattle.dep_nodes.proofs.Sites.{sites_equal}
 use Rattle.summary_edges.specs.declared.joins.Join.{Join}
 use Rattle.summary_edges.specs.declared.joins.Sides.{Sides}
 use Rattle.summary_edges.specs.Adds.{Adds, From, FromBelow}
 use Rattle.summary_edges.specs.Calls.{one_call, lands_in, row_of_call, row_of_node, IsCallTable}
-use Rattle.summary_edges.specs.Levels.{begins_call, ends_call, AreEdgesLike, IsJoin, joined, JoinsFrom, JoinsTo, JoinsInside, JoinsOut}
+use Rattle.dep_nodes.specs.BalancedPaths.{begins_call}
+use Rattle.summary_edges.specs.Levels.{ends_call, AreEdgesLike, IsJoin, joined, JoinsFrom, JoinsTo, JoinsInside, JoinsOut}
 use Rattle.summary_edges.proofs.AddsLemmas.{adds_none, adds_alike}
-use Rattle.summary_edges.proofs.CallLemmas.{one_parts, sites_equal, ends_inside}
+use Rattle.summary_edges.proofs.CallLemmas.{one_parts, ends_inside}
 use Rattle.summary_edges.proofs.PairLemmas.{filter_there, number_there, row_itself}
 use Rattle.summary_edges.proofs.TableLemmas.{name_is}
 

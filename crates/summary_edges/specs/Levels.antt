@@ -4,8 +4,9 @@ use Rattle.std.specs.Prelude.{◌≡◌, ◌↔◌, ◌⊎◌, ℕ, ◌<◌, ◌
 use Rattle.jo_ids.specs.Path.{Path}
 use Rattle.jo_graph.specs.Graphs.{HasEdge as Leads, AddsEdge}
 use Rattle.dep_nodes.specs.declared.kinds.EdgeKind.{EdgeKind}
-use Rattle.dep_nodes.specs.declared.kinds.EdgeKind.TheVariants.{Data, Control, Out, Arg, Call, Ret}
+use Rattle.dep_nodes.specs.declared.kinds.EdgeKind.TheVariants.{Ret}
 use Rattle.dep_nodes.specs.declared.dependence_graph.GraphNode.{GraphNode}
+use Rattle.dep_nodes.specs.BalancedPaths.{stays_level, begins_call}
 use Rattle.dep_nodes.specs.GrowingGraphs.{HasEdge}
 use Rattle.dep_nodes.specs.NumberedChains.{name_at, IsNumberedMatched}
 use Rattle.summary_edges.specs.declared.joins.Join.{Join}
@@ -17,18 +18,7 @@ use Rattle.summary_edges.specs.Calls.{one_call, row_of_node}
 
 -- ---- edges by what they do
 
--- words of edges that neither begin nor end a call
-abbrev pub stays_level : EdgeKind → Bool
-stays_level Data = true
-stays_level Control = true
-stays_level Out = true
-stays_level _ = false
-
-abbrev pub begins_call : EdgeKind → Bool
-begins_call Arg = true
-begins_call Call = true
-begins_call _ = false
-
+-- the word of edges that end a call
 abbrev pub ends_call : EdgeKind → Bool
 ends_call Ret = true
 ends_call _ = false

@@ -2,7 +2,8 @@
 ghost use Rattle.std.specs.Prelude.{◌≡◌, ◌↔◌, ◌<◌, true, length, slice_index_or, [], Contains, IfOk, OnOk};
 ghost use Rattle.summary_edges.specs.Adds.{From};
 ghost use Rattle.summary_edges.specs.Calls.{IsCallTable};
-ghost use Rattle.summary_edges.specs.Levels.{AddsJoins, AreEdgesLike, IsJoin, begins_call, ends_call, joined, JoinsFrom, JoinsTo, JoinsInside, JoinsOut};
+ghost use Rattle.dep_nodes.specs.BalancedPaths.{begins_call};
+ghost use Rattle.summary_edges.specs.Levels.{AddsJoins, AreEdgesLike, IsJoin, ends_call, joined, JoinsFrom, JoinsTo, JoinsInside, JoinsOut};
 ghost use Rattle.summary_edges.specs.declared.joins.Join.{Join as JoinOf};
 
 use crate::calls::{call_row, same_call};

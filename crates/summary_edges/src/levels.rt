@@ -1,7 +1,8 @@
 //! The edges of a graph by what they do.
 ghost use Rattle.std.specs.Prelude.{◌≡◌, ◌<◌, length, IfOk, OnOk};
 ghost use Rattle.summary_edges.specs.Adds.{From};
-ghost use Rattle.summary_edges.specs.Levels.{stays_level as is_level, AddsEdges, AddsTurned, AreEdgesLike, AreLevels, MakesEdge, way_test};
+ghost use Rattle.dep_nodes.specs.BalancedPaths.{stays_level as is_level};
+ghost use Rattle.summary_edges.specs.Levels.{AddsEdges, AddsTurned, AreEdgesLike, AreLevels, MakesEdge, way_test};
 
 use crate::rows::Rows;
 use dep_nodes::{DependenceGraph, EdgeKind};

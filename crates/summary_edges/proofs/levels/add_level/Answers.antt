@@ -1,5 +1,5 @@
 use Rattle.std.proofs.Common.{sym, arith}
-use Rattle.summary_edges.specs.Levels.{stays_level}
+use Rattle.dep_nodes.specs.BalancedPaths.{stays_level}
 use Rattle.summary_edges.proofs.EdgeLemmas.{turned_added}
 use Rattle.summary_edges.proofs.levels.add_level.Goals as goal
 

@@ -1,6 +1,7 @@
 use Rattle.std.proofs.Common.{ℕ, ◌∙◌, refl}
 use Rattle.jo_graph.specs.Graphs.{HasEdge as Leads}
-use Rattle.summary_edges.specs.Levels.{stays_level, MakesEdge}
+use Rattle.dep_nodes.specs.BalancedPaths.{stays_level}
+use Rattle.summary_edges.specs.Levels.{MakesEdge}
 use Rattle.summary_edges.proofs.AddsLemmas.{over_none, over_item, over_all}
 use Rattle.summary_edges.proofs.levels.add_levels.Goals as goal
 

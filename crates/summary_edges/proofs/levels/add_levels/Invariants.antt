@@ -1,7 +1,8 @@
 use Rattle.std.proofs.Common.{◌≡◌, ℕ, length, take}
 use Rattle.jo_graph.specs.Graphs.{HasEdge as Leads}
 use Rattle.summary_edges.specs.Adds.{Adds, From}
-use Rattle.summary_edges.specs.Levels.{stays_level, MakesEdge}
+use Rattle.dep_nodes.specs.BalancedPaths.{stays_level}
+use Rattle.summary_edges.specs.Levels.{MakesEdge}
 use Rattle.summary_edges.proofs.levels.add_levels.Given as goal
 
 abbrev pub invariant-loop-edge : goal.invariant-loop-edge

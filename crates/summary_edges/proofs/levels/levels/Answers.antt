@@ -2,7 +2,7 @@ use Rattle.std.proofs.Common.{◌≡◌, ℕ, List, [], length, replicate, ◌�
 use Rattle.std.proofs.lemmas.List.{length-replicate}
 use Rattle.jo_graph.specs.Graphs.{HasEdge as Leads}
 use Rattle.summary_edges.specs.Adds.{Adds, FromBelow}
-use Rattle.summary_edges.specs.Levels.{stays_level}
+use Rattle.dep_nodes.specs.BalancedPaths.{stays_level}
 use Rattle.summary_edges.proofs.AddsLemmas.{below_none, below_step}
 use Rattle.summary_edges.proofs.EdgeLemmas.{MakesInto, into_added, levels_done}
 use Rattle.summary_edges.proofs.levels.levels.Goals as goal

@@ -1,7 +1,7 @@
 use Rattle.std.proofs.Common.{◌≡◌, ℕ, [], length, replicate}
 use Rattle.jo_graph.specs.Graphs.{HasEdge as Leads}
 use Rattle.summary_edges.specs.Adds.{Adds, FromBelow}
-use Rattle.summary_edges.specs.Levels.{stays_level}
+use Rattle.dep_nodes.specs.BalancedPaths.{stays_level}
 use Rattle.summary_edges.proofs.EdgeLemmas.{MakesInto}
 use Rattle.summary_edges.proofs.levels.levels.Given as goal
 
