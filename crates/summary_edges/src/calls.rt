@@ -87,7 +87,7 @@ pub fn same_call(a: &NodeName, b: &NodeName) -> bool
     }
 }
 
-/// The row of a node's call in a table with so many rows.
+/// The row of a node's call in a table with so many rows. Any factors would do: these spread the pcs of a method.
 pub fn call_row(name: &NodeName, count: u32) -> Option<u32>
     requires { 0 < count }
     ensures row { result ≡ row_of_node count (node_named name.now) }

@@ -59,7 +59,7 @@ impl Rows {
 /// Pairs of nodes, which contracts see as the list that has for each node the beginnings of the pairs that end at it.
 #[derive(Drop)]
 pub struct Summaries {
-    rows: Vec<List<NodeId>>,
+    rows: Rows,
 }
 
 impl Model for Summaries {
@@ -67,7 +67,7 @@ impl Model for Summaries {
 
     ghost Value = { Items (Items ℕ) };
 
-    ghost view = { λ s. s.rows.items };
+    ghost view = { λ s. s.rows };
 }
 
 impl Summaries {
@@ -75,7 +75,9 @@ impl Summaries {
     pub(crate) fn of(rows: Vec<List<NodeId>>) -> Summaries
         ensures { result ≡ rows.items }
     {
-        Summaries { rows }
+        Summaries {
+            rows: Rows { rows },
+        }
     }
 
     /// Whether the pair is there. It takes no memory, and the time of the pairs that end at `to`.
@@ -89,9 +91,6 @@ impl Summaries {
     pub fn beginnings(&self, to: NodeId) -> &[NodeId]
         ensures { result.now ≡ slice_index_or self.now to [] }
     {
-        match self.rows.get(to.number() as usize) {
-            Some(row) => row.as_slice(),
-            None => &[],
-        }
+        self.rows.at(to.number())
     }
 }
