@@ -1,7 +1,9 @@
 pub mod CellLemmas
+pub mod BalancedLemmas
 pub mod ChainLemmas
 pub mod GrowingLemmas
 pub mod ListedLemmas
 pub mod OnceLemmas
 pub mod OneFormLemmas
 pub mod Passes
+pub mod Sites

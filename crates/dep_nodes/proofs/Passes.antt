@@ -7,7 +7,7 @@ use Rattle.dep_nodes.specs.declared.kinds.EdgeKind.TheVariants.{Data, Control, O
 use Rattle.dep_nodes.specs.declared.chains.Word.{Word}
 use Rattle.dep_nodes.specs.declared.chains.Word.TheVariants.{Edge, Pass}
 use Rattle.dep_nodes.specs.Nodes.{Node, CallSite, call_site}
-use Rattle.dep_nodes.specs.Chains.{same_site, opened, closed, returned, adv, StaysWithin, Matched, arrived, onwards, StepsOn, Link, IsChainFrom, end_of, IsEdge, HasChain, HasEdgeChain}
+use Rattle.dep_nodes.specs.Chains.{same_site, opened, closed, returned, adv, StaysWithin, MatchedOver, arrived, onwards, StepsOnOver, LinkTo, IsChainOver, end_of, IsEdge, HasChainOver, HasEdgeChainOver}
 
 -- ---- open calls below
 
@@ -43,12 +43,12 @@ adv_under calls next under a b Fork stays e = absurd stays
 
 -- ---- chains of edges
 
-module _ (E : Node → EdgeKind → Node → Type 0) where
+module _ {N : Type 0} (name : N → Node) (E : N → EdgeKind → N → Type 0) where
   -- a chain of edges alone, to a node
-  abbrev EdgesTo : List CallSite → Node → Node → Type 0
-  EdgesTo calls a c = (links : List Link) × IsChainFrom E calls a links × (end_of a links ≡ c) × AllByRecursion IsEdge links
+  abbrev EdgesTo : List CallSite → N → N → Type 0
+  EdgesTo calls a c = (links : List (LinkTo N)) × IsChainOver name E calls a links × (end_of a links ≡ c) × AllByRecursion IsEdge links
 
-  one_more : (calls next : List CallSite) (kind : EdgeKind) (a b c : Node) → E a kind b → adv calls a kind b ≡ Some next → EdgesTo next b c → EdgesTo calls a c
+  one_more : (calls next : List CallSite) (kind : EdgeKind) (a b c : N) → E a kind b → adv calls (name a) kind (name b) ≡ Some next → EdgesTo next b c → EdgesTo calls a c
   one_more calls next kind a b c along opens rest = (
     (record { word = Edge kind; to = b }) ∷ rest.0,
     (next, (along, opens), rest.1),
@@ -56,18 +56,18 @@ module _ (E : Node → EdgeKind → Node → Type 0) where
     ((kind, refl), rest.3),
   )
 
-  matched_first : (calls under : List CallSite) (a b c : Node) → Matched E calls a b → EdgesTo under b c → EdgesTo (calls ++ under) a c
+  matched_first : (calls under : List CallSite) (a b c : N) → MatchedOver name E calls a b → EdgesTo under b c → EdgesTo (calls ++ under) a c
   matched_first calls under a b c (arrived n) rest = rest
   matched_first calls under a b c (onwards before next kind x y z along stays opens path) rest =
-      one_more (before ++ under) (next ++ under) kind x y c along (adv_under before next under x y kind stays opens) (matched_first next under y z c path rest)
+      one_more (before ++ under) (next ++ under) kind x y c along (adv_under before next under (name x) (name y) kind stays opens) (matched_first next under y z c path rest)
 
-  step_first : (calls next : List CallSite) (a b c : Node) (word : Word) → StepsOn E calls a word b next → EdgesTo next b c → EdgesTo calls a c
+  step_first : (calls next : List CallSite) (a b c : N) (word : Word) → StepsOnOver name E calls a word b next → EdgesTo next b c → EdgesTo calls a c
   step_first calls next a b c (Edge kind) step rest = one_more calls next kind a b c step.0 step.1 rest
   step_first calls next a b c Pass step rest = matched_first [] calls a b c step.0.path (subst (λ open_calls. EdgesTo open_calls b c) step.1 rest)
 
-  edges_from : (calls : List CallSite) (a : Node) (links : List Link) → IsChainFrom E calls a links → EdgesTo calls a (end_of a links)
+  edges_from : (calls : List CallSite) (a : N) (links : List (LinkTo N)) → IsChainOver name E calls a links → EdgesTo calls a (end_of a links)
   edges_from calls a [] chain = ([], tt, refl, tt)
   edges_from calls a (link ∷ links) (next, step, rest) = step_first calls next a link.to (end_of link.to links) link.word step (edges_from next link.to links rest)
 
-  pub edges_instead : (a b : Node) → HasChain E a b → HasEdgeChain E a b
+  pub edges_instead : (a b : N) → HasChainOver name E a b → HasEdgeChainOver name E a b
   edges_instead a b chain = subst (λ c. EdgesTo [] a c) chain.2 (edges_from [] a chain.0 chain.1)

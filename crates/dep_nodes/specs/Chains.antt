@@ -1,6 +1,7 @@
--- Valid chains over any edges between nodes (after Horwitz, Reps and Binkley 1990; the automaton and `pass` are this
--- project's own). An automaton keeps the list of open calls: a return that finds an open call closes the last one, which
--- must be its own, and one that finds none goes on to a caller; a heap or a fork edge forgets the open calls.
+-- Valid chains over any edges (after Horwitz, Reps and Binkley 1990; the automaton and `pass` are this project's own). An
+-- automaton keeps the list of open calls: a return that finds an open call closes the last one, which must be its own, and
+-- one that finds none goes on to a caller; a heap or a fork edge forgets the open calls. Chains are said once over any type
+-- of nodes that have names, since a graph may give two numbers one name; where the nodes are their names, they are below.
 use Rattle.std.specs.Prelude.{◌≡◌, ◌≢◌, Bool, true, false, ◌&&◌, ◌==◌, List, [], ◌∷◌, Option, Some, None, if◌then◌else◌}
 use Rattle.std.specs.Str.{bytes_eq}
 use Rattle.std.specs.List.{AllByRecursion}
@@ -46,9 +47,9 @@ adv calls from Fork to = Some []
 -- ---- matched paths
 
 -- a step of a chain, to its end
-pub record Link : Type 0 where
+pub record LinkTo (N : Type 0) : Type 0 where
   pub word : Word
-  pub to : Node
+  pub to : N
 
 -- a word of edges that stay within a call and what it calls: none that forgets open calls, no return that finds none open
 abbrev pub StaysWithin : List CallSite → EdgeKind → Type 0
@@ -58,18 +59,18 @@ StaysWithin calls Ret = calls ≢ []
 StaysWithin calls _ = Unit {0}
 
 -- a path from a node where these calls are open to one where none is
-pub data Matched (E : Node → EdgeKind → Node → Type 0) : List CallSite → Node → Node → Type 0 where
-  arrived : (n : Node) → Matched E [] n n
-  onwards : (calls next : List CallSite) (kind : EdgeKind) (a b c : Node) → E a kind b → StaysWithin calls kind → adv calls a kind b ≡ Some next → Matched E next b c → Matched E calls a c
+pub data MatchedOver {N : Type 0} (name : N → Node) (E : N → EdgeKind → N → Type 0) : List CallSite → N → N → Type 0 where
+  arrived : (n : N) → MatchedOver name E [] n n
+  onwards : (calls next : List CallSite) (kind : EdgeKind) (a b c : N) → E a kind b → StaysWithin calls kind → adv calls (name a) kind (name b) ≡ Some next → MatchedOver name E next b c → MatchedOver name E calls a c
 
 -- the links of a matched path, or of the rest of one
-abbrev pub path_links : (E : Node → EdgeKind → Node → Type 0) (calls : List CallSite) (a b : Node) → Matched E calls a b → List Link
-path_links E calls a b (arrived n) = []
-path_links E calls a b (onwards before next kind x y z along stays opens path) = record { word = Edge kind; to = y } ∷ path_links E next y z path
+abbrev pub path_links_over : {N : Type 0} (name : N → Node) (E : N → EdgeKind → N → Type 0) (calls : List CallSite) (a b : N) → MatchedOver name E calls a b → List (LinkTo N)
+path_links_over name E calls a b (arrived n) = []
+path_links_over name E calls a b (onwards before next kind x y z along stays opens path) = record { word = Edge kind; to = y } ∷ path_links_over name E next y z path
 
 -- a matched path, which leaves no call open
-abbrev pub IsMatched : (Node → EdgeKind → Node → Type 0) → Node → Node → Type 0
-IsMatched E a b = Matched E [] a b
+abbrev pub IsMatchedOver : {N : Type 0} → (N → Node) → (N → EdgeKind → N → Type 0) → N → N → Type 0
+IsMatchedOver name E a b = MatchedOver name E [] a b
 
 -- ---- chains
 
@@ -86,48 +87,83 @@ comes_out (Throw pc) = true
 comes_out _ = false
 
 -- a `pass` step stands for a matched path from where a call goes in to where the same call comes out
-pub record IsPass (E : Node → EdgeKind → Node → Type 0) (from to : Node) : Type 0 where
-  pub begin : goes_in from.kind ≡ true
-  pub end : comes_out to.kind ≡ true
-  pub same_call : call_site from ≡ call_site to
-  pub path : IsMatched E from to
+pub record IsPassOver {N : Type 0} (name : N → Node) (E : N → EdgeKind → N → Type 0) (from to : N) : Type 0 where
+  pub begin : goes_in (name from).kind ≡ true
+  pub end : comes_out (name to).kind ≡ true
+  pub same_call : call_site (name from) ≡ call_site (name to)
+  pub path : MatchedOver name E [] from to
 
 -- a step with this word leads on, with these open calls before and behind it
-abbrev pub StepsOn : (Node → EdgeKind → Node → Type 0) → List CallSite → Node → Word → Node → List CallSite → Type 0
-StepsOn E calls from (Edge kind) to next = E from kind to × (adv calls from kind to ≡ Some next)
-StepsOn E calls from Pass to next = IsPass E from to × (next ≡ calls)
+abbrev pub StepsOnOver : {N : Type 0} → (N → Node) → (N → EdgeKind → N → Type 0) → List CallSite → N → Word → N → List CallSite → Type 0
+StepsOnOver name E calls from (Edge kind) to next = E from kind to × (adv calls (name from) kind (name to) ≡ Some next)
+StepsOnOver name E calls from Pass to next = IsPassOver name E from to × (next ≡ calls)
 
 -- the steps lead on from a node where these calls are open
-abbrev pub IsChainFrom : (Node → EdgeKind → Node → Type 0) → List CallSite → Node → List Link → Type 0
-IsChainFrom E calls from [] = Unit {0}
-IsChainFrom E calls from (link ∷ links) = (next : List CallSite) × StepsOn E calls from link.word link.to next × IsChainFrom E next link.to links
+abbrev pub IsChainOver : {N : Type 0} → (N → Node) → (N → EdgeKind → N → Type 0) → List CallSite → N → List (LinkTo N) → Type 0
+IsChainOver name E calls from [] = Unit {0}
+IsChainOver name E calls from (link ∷ links) = (next : List CallSite) × StepsOnOver name E calls from link.word link.to next × IsChainOver name E next link.to links
 
 -- the steps lead on from a node where the first calls are open, and leave the second open
-abbrev pub LeavesOpen : (Node → EdgeKind → Node → Type 0) → List CallSite → Node → List Link → List CallSite → Type 0
-LeavesOpen E calls from [] left = left ≡ calls
-LeavesOpen E calls from (link ∷ links) left = (next : List CallSite) × StepsOn E calls from link.word link.to next × LeavesOpen E next link.to links left
+abbrev pub LeavesOpenOver : {N : Type 0} → (N → Node) → (N → EdgeKind → N → Type 0) → List CallSite → N → List (LinkTo N) → List CallSite → Type 0
+LeavesOpenOver name E calls from [] left = left ≡ calls
+LeavesOpenOver name E calls from (link ∷ links) left = (next : List CallSite) × StepsOnOver name E calls from link.word link.to next × LeavesOpenOver name E next link.to links left
 
-abbrev pub pass_to : Node → Link
+abbrev pub pass_to : {N : Type 0} → N → LinkTo N
 pass_to to = record { word = Pass; to = to }
+
+-- where a chain ends
+abbrev pub end_of : {N : Type 0} → N → List (LinkTo N) → N
+end_of from [] = from
+end_of from (link ∷ links) = end_of link.to links
+
+-- a valid chain leads from one node to another
+abbrev pub HasChainOver : {N : Type 0} → (N → Node) → (N → EdgeKind → N → Type 0) → N → N → Type 0
+HasChainOver {N} name E from to = (links : List (LinkTo N)) × IsChainOver name E [] from links × (end_of from links ≡ to)
+
+-- ---- chains of edges alone
+
+abbrev pub IsEdge : {N : Type 0} → LinkTo N → Type 0
+IsEdge link = (kind : EdgeKind) × (link.word ≡ Edge kind)
+
+-- a valid chain without a `pass` step leads from one node to another
+abbrev pub HasEdgeChainOver : {N : Type 0} → (N → Node) → (N → EdgeKind → N → Type 0) → N → N → Type 0
+HasEdgeChainOver {N} name E from to = (links : List (LinkTo N)) × IsChainOver name E [] from links × (end_of from links ≡ to) × AllByRecursion IsEdge links
+
+-- ---- nodes that are their names
+
+abbrev pub itself : Node → Node
+itself n = n
+
+abbrev pub Link : Type 0
+Link = LinkTo Node
+
+abbrev pub Matched : (Node → EdgeKind → Node → Type 0) → List CallSite → Node → Node → Type 0
+Matched E = MatchedOver itself E
+
+abbrev pub path_links : (E : Node → EdgeKind → Node → Type 0) (calls : List CallSite) (a b : Node) → Matched E calls a b → List Link
+path_links E = path_links_over itself E
+
+abbrev pub IsMatched : (Node → EdgeKind → Node → Type 0) → Node → Node → Type 0
+IsMatched E = IsMatchedOver itself E
+
+abbrev pub IsPass : (Node → EdgeKind → Node → Type 0) → Node → Node → Type 0
+IsPass E = IsPassOver itself E
+
+abbrev pub StepsOn : (Node → EdgeKind → Node → Type 0) → List CallSite → Node → Word → Node → List CallSite → Type 0
+StepsOn E = StepsOnOver itself E
+
+abbrev pub IsChainFrom : (Node → EdgeKind → Node → Type 0) → List CallSite → Node → List Link → Type 0
+IsChainFrom E = IsChainOver itself E
+
+abbrev pub LeavesOpen : (Node → EdgeKind → Node → Type 0) → List CallSite → Node → List Link → List CallSite → Type 0
+LeavesOpen E = LeavesOpenOver itself E
 
 -- a valid chain from a node
 abbrev pub IsValidChain : (Node → EdgeKind → Node → Type 0) → Node → List Link → Type 0
 IsValidChain E from links = IsChainFrom E [] from links
 
--- where a chain ends
-abbrev pub end_of : Node → List Link → Node
-end_of from [] = from
-end_of from (link ∷ links) = end_of link.to links
-
--- a valid chain leads from one node to another
 abbrev pub HasChain : (Node → EdgeKind → Node → Type 0) → Node → Node → Type 0
-HasChain E from to = (links : List Link) × IsValidChain E from links × (end_of from links ≡ to)
+HasChain E = HasChainOver itself E
 
--- ---- chains of edges alone
-
-abbrev pub IsEdge : Link → Type 0
-IsEdge link = (kind : EdgeKind) × (link.word ≡ Edge kind)
-
--- a valid chain without a `pass` step leads from one node to another
 abbrev pub HasEdgeChain : (Node → EdgeKind → Node → Type 0) → Node → Node → Type 0
-HasEdgeChain E from to = (links : List Link) × IsValidChain E from links × (end_of from links ≡ to) × AllByRecursion IsEdge links
+HasEdgeChain E = HasEdgeChainOver itself E

@@ -1,4 +1,5 @@
 pub mod AccessTables
+pub mod BalancedPaths
 pub mod ChainExamples
 pub mod Chains
 pub mod Graphs
@@ -7,3 +8,4 @@ pub mod ItemKeys
 pub mod Nodes
 pub mod OnceLists
 pub mod OneForm
+pub mod NumberedChains

@@ -3,6 +3,6 @@ use Rattle.dep_nodes.proofs.laws.chains_split.Goals as goal
 
 pub returns : goal.returns
 returns g c = record {
-  parts = λ calls from links more chain. split_chain g.E.Edges.leads calls from links more chain;
-  once = λ calls one two from links first second. left_once g.E.Edges.leads calls one two from links first second;
+  parts = λ calls from links more chain. split_chain g.N.Edges.name g.N.Edges.leads calls from links more chain;
+  once = λ calls one two from links first second. left_once g.N.Edges.name g.N.Edges.leads calls one two from links first second;
 }
