@@ -1,0 +1,9 @@
+pub mod AddsLemmas
+pub mod CallLemmas
+pub mod ClosedPaths
+pub mod ClosingLemmas
+pub mod EdgeLemmas
+pub mod JoinLemmas
+pub mod PairLemmas
+pub mod RowLemmas
+pub mod TableLemmas
