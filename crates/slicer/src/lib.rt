@@ -10,3 +10,6 @@ mod search;
 pub use finds::{Found, Phase, Place, Way};
 pub use fits::calls_fit;
 pub use marking::Slicer;
+
+#[cfg(test)]
+mod tests;
