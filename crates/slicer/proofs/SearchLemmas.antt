@@ -226,7 +226,7 @@ module _ (nodes : List GraphNode) where
   chain_from found is_search (suc fuel) k d calls within below may =
       by_way found is_search k d calls below may (λ next after less open_there. chain_from found is_search fuel next d after (omega (arith, less)) (omega (arith, less)) open_there) (get_or found k d).way refl
 
-  module _ (criteria : List ℕ) (begun found : List Found) (begins : BeginsWith criteria begun) (more : Appends IsStep begun found) (search : IsSearch nodes found) (closed : IsClosed nodes found) (fits : CallsFit nodes) where
+  module _ (criteria : List ℕ) (begun found : List Found) (begins : BeginsWith criteria begun) (more : Appends IsStep begun found) (search : IsSearch nodes found) (closed : IsClosed nodes found) where
     not_step : (n : ℕ) → IsStep (criterion n) → ⊥
     not_step n (word, next, e) = absurd (cc)
 
@@ -244,7 +244,7 @@ module _ (nodes : List GraphNode) where
     pub criteria_are : (n : ℕ) → IsCriterion found n ↔ Contains criteria n
     criteria_are n = (criterion_among n, criterion_found n)
 
-    has_chain : (n : ℕ) → HasNode found n → HasChainToOneOf nodes criteria n
+    pub has_chain : (n : ℕ) → HasNode found n → HasChainToOneOf nodes criteria n
     has_chain n (phase, (k, below, e)) =
         let inside : k < length found = omega (arith, below, length-map found (λ (f : Found). f.place)) in
         let is : (get_or found k (criterion 0)).place ≡ place n phase = sym (get_or-map (λ (f : Found). f.place) found k (criterion 0) (place n phase) inside) ∙ e in
@@ -261,13 +261,10 @@ module _ (nodes : List GraphNode) where
           get_or-map (λ (f : Found). f.place) found at.0 (criterion c) (place c First) at.1 ∙ ap (λ (f : Found). f.place) at.2,
         )
 
-    is_found : (n : ℕ) → HasChainToOneOf nodes criteria n → HasNode found n
-    is_found n (c, among, chain) =
+    pub is_found : CallsFit nodes → (n : ℕ) → HasChainToOneOf nodes criteria n → HasNode found n
+    is_found fits n (c, among, chain) =
         found_from (name_at nodes) (HasEdge nodes) (λ a phase. HasPlace found (place a phase)) (λ a b before phase word leads r. closed (place a before) (place b phase) word leads r)
         (λ a b kind edge. fits a b kind edge) n c chain (place_found c among)
-
-    pub marked_are : (n : ℕ) → HasNode found n ↔ HasChainToOneOf nodes criteria n
-    marked_are n = (has_chain n, is_found n)
 
   -- ---- the steps of a chain
 

@@ -95,7 +95,6 @@ HasChainToOneOf nodes criteria node = (c : ℕ) × Contains criteria c × HasNum
 pub record IsSlicerOf (nodes : List GraphNode) (slicer : Slices) : Type 0 where
   pub count : slicer.count ≡ length nodes
   pub summaries : AreSummaries nodes slicer.summaries
-  pub calls : CallsFit nodes
   pub search : IsSearch nodes slicer.found
 
 abbrev pub link_of_step : Step → LinkTo ℕ

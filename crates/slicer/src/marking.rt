@@ -37,8 +37,7 @@ impl Slicer {
         graph: &DependenceGraph,
         summaries: Summaries,
     ) -> Result<Slicer, Memory>
-        requires summaries { AreSummaries graph.now summaries }
-        requires calls { CallsFit graph.now }
+        requires { AreSummaries graph.now summaries }
         ensures made { IfOk result (λ slicer. IsSlicerOf graph.now slicer) }
         ensures none { IfOk result (λ slicer. slicer.found ≡ []) }
     {
@@ -50,13 +49,15 @@ impl Slicer {
         })
     }
 
-    /// Marks exactly the nodes from which a valid chain leads to a criterion. Each edge and each summary edge is looked at
-    /// twice at most.
+    /// Marks exactly the nodes from which a valid chain leads to a criterion. Where edges don't fit the ends of calls
+    /// (`calls_fit`), a matched path need not have a summary edge: then it may mark fewer, and never others. Each edge and
+    /// each summary edge is looked at twice at most.
     pub fn mark(&mut self, graph: &DependenceGraph, criteria: &[NodeId])
         requires made { IsSlicerOf graph.now self.old }
         requires below { All (λ c. c < length graph.now) criteria.now }
         ensures made { IsSlicerOf graph.now self.new }
-        ensures marked { (n : ℕ) → HasNode self.new.found n ↔ HasChainToOneOf graph.now criteria.now n }
+        ensures marked { (n : ℕ) → HasNode self.new.found n → HasChainToOneOf graph.now criteria.now n }
+        ensures all { CallsFit graph.now → (n : ℕ) → HasChainToOneOf graph.now criteria.now n → HasNode self.new.found n }
         ensures criteria { (n : ℕ) → IsCriterion self.new.found n ↔ Contains criteria.now n }
     {
         self.finds.clear();
