@@ -62,4 +62,4 @@ ends_inside nodes from to kind edge = elim (cases_lt to (length nodes)) [
 ]
 
 pub fit_below : (nodes : List GraphNode) (count : ℕ) → length nodes ≤ count → ((to : ℕ) → to < count → EdgesFit nodes to) → CallsFit nodes
-fit_below nodes count all fit from to kind edge = fit to (let below = ends_inside nodes from to kind edge in omega arith) from kind edge
+fit_below nodes count all fit to from kind edge = fit to (let below = ends_inside nodes from to kind edge in omega arith) from kind edge

@@ -264,7 +264,7 @@ module _ (nodes : List GraphNode) where
     pub is_found : CallsFit nodes → (n : ℕ) → HasChainToOneOf nodes criteria n → HasNode found n
     is_found fits n (c, among, chain) =
         found_from (name_at nodes) (HasEdge nodes) (λ a phase. HasPlace found (place a phase)) (λ a b before phase word leads r. closed (place a before) (place b phase) word leads r)
-        (λ a b kind edge. fits a b kind edge) n c chain (place_found c among)
+        (λ a b kind edge. fits b a kind edge) n c chain (place_found c among)
 
   -- ---- the steps of a chain
 

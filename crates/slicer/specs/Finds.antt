@@ -1,6 +1,6 @@
--- What a search backwards along chains has found: places in order, each once, with how a chain leads on from each. A place
--- is a node in one of two phases (after Horwitz, Reps and Binkley 1990).
-use Rattle.std.specs.Prelude.{◌≡◌, ◌⊎◌, ◌↔◌, ℕ, ◌+◌, Bool, true, not, List, [], ◌∷◌, ◌++◌, length, map, take, slice_set, Contains, count_by}
+-- What a search backwards along chains has found: places in order, each once, with how a chain leads on from each. A
+-- place is a node in one of two phases (after Horwitz, Reps and Binkley 1990).
+use Rattle.std.specs.Prelude.{◌≡◌, ◌⊎◌, ◌↔◌, ℕ, ◌+◌, Bool, true, not, List, [], ◌∷◌, ◌++◌, length, map, take, slice_set, slice_index_or, Contains, count_by}
 use Rattle.jo_ids.specs.Rows.{has_number}
 use Rattle.slicer.specs.declared.finds.Phase.{Phase}
 use Rattle.slicer.specs.declared.finds.Phase.TheVariants.{First, Second}
@@ -9,6 +9,10 @@ use Rattle.slicer.specs.declared.finds.Found.{Found}
 
 abbrev pub place : ℕ → Phase → Place
 place node phase = record { node = node; phase = phase }
+
+-- the place of what was found with that number, where there is such
+abbrev pub place_at : List Found → ℕ → Found → Place
+place_at found number d = (slice_index_or found number d).place
 
 abbrev pub places_of : List Found → List Place
 places_of found = map (λ f. f.place) found
@@ -23,7 +27,8 @@ HasNode found node = (phase : Phase) × HasPlace found (place node phase)
 
 -- the new list has the item at its end, unless the old one has its place
 abbrev pub AddsFound : List Found → Found → List Found → Type 0
-AddsFound old item new = (HasPlace old item.place × (new ≡ old)) ⊎ ((HasPlace old item.place → ⊥) × (new ≡ old ++ item ∷ []))
+AddsFound old item new =
+    (HasPlace old item.place × (new ≡ old)) ⊎ ((HasPlace old item.place → ⊥) × (new ≡ old ++ item ∷ []))
 
 -- ---- how it is kept: a set of nodes for each phase, and room for each node in each phase
 
@@ -54,4 +59,5 @@ pub record IsKept (first second : List Bool) (places : List Found) (end : ℕ) :
   pub same_length : length second ≡ length first
   pub room : length places ≡ length first + length second
   pub counted : end + (count_by not first + count_by not second) ≡ length places
-  pub sets : (phase : Phase) (node : ℕ) → (has_number (row_of_phase phase first second) node ≡ true) ↔ HasPlace (take end places) (place node phase)
+  pub sets : (phase : Phase) (node : ℕ)
+      → (has_number (row_of_phase phase first second) node ≡ true) ↔ HasPlace (take end places) (place node phase)

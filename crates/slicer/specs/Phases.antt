@@ -1,7 +1,7 @@
--- The two phases of a search backwards along valid chains (after Horwitz, Reps and Binkley 1990). In the first what follows
--- holds whatever calls are open: from a criterion one goes back to callers, and never into a callee. In the second what
--- follows holds where no call is open: one goes back into callees, and to no caller but by a `pass`. A heap or a fork edge
--- forgets the open calls, so the first phase begins anew before it.
+-- The two phases of a search backwards along valid chains (after Horwitz, Reps and Binkley 1990). In the first what
+-- follows holds whatever calls are open: from a criterion one goes back to callers, and never into a callee. In the
+-- second what follows holds where no call is open: one goes back into callees, and to no caller but by a `pass`. A heap
+-- or a fork edge forgets the open calls, so the first phase begins anew before it.
 use Rattle.std.specs.Prelude.{◌≡◌, Bool, true, false, List, [], Option, Some, None, is_some}
 use Rattle.dep_nodes.specs.declared.kinds.NodeKind.{NodeKind}
 use Rattle.dep_nodes.specs.declared.kinds.EdgeKind.{EdgeKind}
@@ -28,7 +28,7 @@ abbrev pub before_return : Bool → Option Phase
 before_return false = None
 before_return true = Some Second
 
--- the phase at the beginning of an edge, where the phase at its end is given; none where the edge is not gone back
+-- the phase at the beginning of an edge, where that at its end is given; none where the edge is not gone back
 abbrev pub phase_before : EdgeKind → Node → Node → Phase → Option Phase
 phase_before Data from to phase = Some phase
 phase_before Control from to phase = Some phase
@@ -40,8 +40,10 @@ phase_before Heap from to phase = Some First
 phase_before Fork from to phase = Some First
 
 -- a step with this word, between nodes in these phases
-abbrev pub LeadsOver : {N : Type 0} → (N → Node) → (N → EdgeKind → N → Type 0) → N → Phase → Word → N → Phase → Type 0
-LeadsOver name E from before (Edge kind) to phase = E from kind to × (phase_before kind (name from) (name to) phase ≡ Some before)
+abbrev pub LeadsOver : {N : Type 0} → (N → Node) → (N → EdgeKind → N → Type 0)
+    → N → Phase → Word → N → Phase → Type 0
+LeadsOver name E from before (Edge kind) to phase =
+    E from kind to × (phase_before kind (name from) (name to) phase ≡ Some before)
 LeadsOver name E from before Pass to phase = IsPassOver name E from to × (before ≡ phase)
 
 -- the calls that may be open at a place of that phase

@@ -1,8 +1,8 @@
 //! What a search has found: places in order, each once, with how a chain leads on from each.
-ghost use Rattle.std.specs.Prelude.{◌≡◌, ◌+◌, ◌<◌, ◌≤◌, ◌↔◌, [], length, not, IfOk, IfSome, IfNone, IsTrue, Some, slice_get, slice_index_or};
+ghost use Rattle.std.specs.Prelude.{◌≡◌, ◌+◌, ◌<◌, ◌≤◌, ◌↔◌, [], length, not, IfOk, IfSome, IfNone, IsTrue, Some, slice_get};
 ghost use Rattle.slicer.specs.declared.finds.Found.{Found as AFound};
 ghost use Rattle.jo_ids.specs.Rows.{has_number};
-ghost use Rattle.slicer.specs.Finds.{AddsFound, HasNode, with_node, row_of_phase};
+ghost use Rattle.slicer.specs.Finds.{place_at, AddsFound, HasNode, with_node, row_of_phase};
 
 use dep_nodes::Word;
 use jo_ids::{BitRow, Id, Memory, NodeId};
@@ -23,7 +23,7 @@ pub struct Place {
     pub phase: Phase,
 }
 
-/// How a chain leads on from a place: not at all at a criterion, else by a step to what was found before, by its number.
+/// How a chain leads on from a place: at a criterion not at all, else by a step to what was found before, by number.
 #[derive(Clone, Copy)]
 pub enum Way {
     Criterion,
@@ -125,7 +125,8 @@ impl Finds {
 
     /// The number of a place of the node.
     pub fn find(&self, node: NodeId) -> Option<usize>
-        ensures some { IfSome result (λ k. (k < length self.now.found) × ((d : AFound) → (slice_index_or self.now.found k d).place.node ≡ node)) }
+        ensures some { IfSome result (λ k. k < length self.now.found) }
+        ensures node { IfSome result (λ k. (d : AFound) → (place_at self.now.found k d).node ≡ node) }
         ensures none { IfNone result (HasNode self.now.found node → ⊥) }
     {
         for number in 0..self.end {

@@ -8,8 +8,8 @@ ghost use Rattle.slicer.specs.Slices.{CallsFit, EdgesFit};
 use dep_nodes::{DependenceGraph, EdgeKind, NodeKind, NodeName};
 use jo_ids::{Id, NodeId};
 
-/// Whether each `arg` and `call` edge begins at an `Arg` or a `Call`, and each `ret` edge ends at a `RetVal`, a `RetKind` or
-/// a `Throw`. It looks at each edge once, and takes no memory.
+/// Whether each `arg` and `call` edge begins at an `Arg` or a `Call`, and each `ret` edge ends at a `RetVal`, a
+/// `RetKind` or a `Throw`. It looks at each edge once, and takes no memory.
 pub fn calls_fit(graph: &DependenceGraph) -> bool
     ensures { IsTrue result ↔ CallsFit graph.now }
 {

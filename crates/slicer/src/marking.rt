@@ -1,9 +1,9 @@
 //! Slices of one graph after another list of criteria.
-ghost use Rattle.std.specs.Prelude.{◌≡◌, ◌↔◌, ℕ, ◌<◌, [], length, All, Contains, IfOk, IsTrue, slice_index_or};
+ghost use Rattle.std.specs.Prelude.{◌≡◌, ◌↔◌, ℕ, ◌<◌, [], length, All, Contains, IfOk, IsTrue};
 ghost use Rattle.dep_nodes.specs.NumberedChains.{AreSummaries};
 ghost use Rattle.slicer.specs.declared.finds.Found.{Found as AFound};
-ghost use Rattle.slicer.specs.Finds.{HasNode};
-ghost use Rattle.slicer.specs.Slices.{CallsFit, IsCriterion, IsSearch, IsSlicerOf, IsChainToCriterion, AreStepsToCriterion, HasChainToOneOf};
+ghost use Rattle.slicer.specs.Finds.{place_at, HasNode};
+ghost use Rattle.slicer.specs.Slices.{CallsFit, IsCriterion, IsSearch, IsSlicerOf, IsChainToCriterion, AreStepsToCriterion, MarksAll, MarksOnly};
 
 use crate::finds::{Finds, Way};
 use crate::search::{begin, spread};
@@ -13,8 +13,8 @@ use std::alloc::Global;
 use std::marker::Model;
 use summary_edges::Summaries;
 
-/// Marks the nodes of a graph from which a valid chain leads to a criterion. Contracts see its summary edges, the graph's
-/// count of nodes, and what the last search found.
+/// Marks the nodes of a graph from which a valid chain leads to a criterion. Contracts see its summary edges, the
+/// graph's count of nodes, and what the last search found.
 #[derive(Drop)]
 pub struct Slicer {
     summaries: Summaries,
@@ -31,7 +31,7 @@ impl Model for Slicer {
 }
 
 impl Slicer {
-    /// A slicer of the graph with these summary edges, which has no node marked. It takes all its memory here.
+    /// A slicer of the graph with these summary edges, with no node marked. It takes all its memory here.
     pub fn new(
         alloc: Global,
         graph: &DependenceGraph,
@@ -50,14 +50,14 @@ impl Slicer {
     }
 
     /// Marks exactly the nodes from which a valid chain leads to a criterion. Where edges don't fit the ends of calls
-    /// (`calls_fit`), a matched path need not have a summary edge: then it may mark fewer, and never others. Each edge and
-    /// each summary edge is looked at twice at most.
+    /// (`calls_fit`), a matched path need not have a summary edge: then it may mark fewer, and never others. Each edge
+    /// and each summary edge is looked at twice at most.
     pub fn mark(&mut self, graph: &DependenceGraph, criteria: &[NodeId])
         requires made { IsSlicerOf graph.now self.old }
         requires below { All (λ c. c < length graph.now) criteria.now }
         ensures made { IsSlicerOf graph.now self.new }
-        ensures marked { (n : ℕ) → HasNode self.new.found n → HasChainToOneOf graph.now criteria.now n }
-        ensures all { CallsFit graph.now → (n : ℕ) → HasChainToOneOf graph.now criteria.now n → HasNode self.new.found n }
+        ensures marked { MarksOnly graph.now criteria.now self.new.found }
+        ensures all { CallsFit graph.now → MarksAll graph.now criteria.now self.new.found }
         ensures criteria { (n : ℕ) → IsCriterion self.new.found n ↔ Contains criteria.now n }
     {
         self.finds.clear();
@@ -103,7 +103,8 @@ fn steps_from(
     requires search { IsSearch graph.now finds.now.found }
     requires count { finds.now.count ≡ length graph.now }
     requires number { number < length finds.now.found }
-    ensures { (d : AFound) → IfOk result (λ steps. AreStepsToCriterion graph.now finds.now.found (slice_index_or finds.now.found number d).place.node steps) }
+    ensures { (d : AFound) → IfOk result
+        (AreStepsToCriterion graph.now finds.now.found (place_at finds.now.found number d).node) }
 {
     let mut number = number;
     let mut steps = List::new(alloc);

@@ -1,14 +1,10 @@
 //! The search: back from the criteria along edges and summary edges, from place to place.
-ghost use Rattle.std.specs.Prelude.{◌≡◌, ℕ, ◌<◌, [], length, All, Contains, slice_index_or};
-ghost use Rattle.dep_nodes.specs.declared.kinds.EdgeKind.{EdgeKind as AnEdgeKind};
-ghost use Rattle.dep_nodes.specs.declared.chains.Word.TheVariants.{Edge as AnEdge};
+ghost use Rattle.std.specs.Prelude.{◌≡◌, ℕ, ◌<◌, [], length, All, Contains};
 ghost use Rattle.dep_nodes.specs.GrowingGraphs.{HasEdge};
 ghost use Rattle.dep_nodes.specs.NumberedChains.{AreSummaries};
-ghost use Rattle.slicer.specs.declared.finds.Phase.{Phase as APhase};
-ghost use Rattle.slicer.specs.declared.finds.Place.{Place as APlace};
 ghost use Rattle.slicer.specs.declared.finds.Found.{Found as AFound};
-ghost use Rattle.slicer.specs.Finds.{place as place_in, HasPlace};
-ghost use Rattle.slicer.specs.Slices.{BeginsWith, Appends, IsStepTo, IsPassTo, IsStep, IsPhaseBefore, IsSearch, IsClosed, Leads};
+ghost use Rattle.slicer.specs.Finds.{place as place_in, place_at, HasPlace};
+ghost use Rattle.slicer.specs.Slices.{BeginsWith, Appends, IsStepTo, IsPassTo, IsStep, IsSearch, IsClosed, AllStepsTo, AllEdgesTo, EdgeIsFound};
 
 use crate::finds::{Finds, Found, Phase, Place, Way};
 use crate::phases::phase_before;
@@ -57,8 +53,9 @@ fn follow(graph: &DependenceGraph, summaries: &Summaries, finds: &mut Finds, num
     requires count { finds.old.count ≡ length graph.now }
     requires number { number < length finds.old.found }
     ensures count { finds.new.count ≡ finds.old.count }
-    ensures more { (d : AFound) → Appends (IsStepTo graph.now number (slice_index_or finds.old.found number d).place) finds.old.found finds.new.found }
-    ensures all { (d : AFound) (from : APlace) (word : Word) → Leads graph.now from word (slice_index_or finds.old.found number d).place → HasPlace finds.new.found from }
+    ensures more { (d : AFound) → Appends (IsStepTo graph.now number (place_at finds.old.found number d))
+        finds.old.found finds.new.found }
+    ensures all { (d : AFound) → AllStepsTo graph.now (place_at finds.old.found number d) finds.new.found }
 {
     let place = finds.get(number).place;
     follow_edges(graph, finds, number, &place);
@@ -71,7 +68,7 @@ fn follow_edges(graph: &DependenceGraph, finds: &mut Finds, number: usize, place
     requires count { finds.old.count ≡ length graph.now }
     ensures count { finds.new.count ≡ finds.old.count }
     ensures more { Appends (IsStepTo graph.now number place.now) finds.old.found finds.new.found }
-    ensures all { (from : APlace) (kind : AnEdgeKind) → Leads graph.now from (AnEdge kind) place.now → HasPlace finds.new.found from }
+    ensures all { AllEdgesTo graph.now place.now finds.new.found }
 {
     let edges = graph.edges_into(place.node);
     for edge in edges {
@@ -93,7 +90,7 @@ fn go_back(
     requires edge { HasEdge graph.now edge.0 edge.1 place.now.node }
     ensures count { finds.new.count ≡ finds.old.count }
     ensures more { Appends (IsStepTo graph.now number place.now) finds.old.found finds.new.found }
-    ensures all { (phase : APhase) → IsPhaseBefore graph.now edge.0 edge.1 place.now phase → HasPlace finds.new.found (place_in edge.0 phase) }
+    ensures all { EdgeIsFound graph.now edge place.now finds.new.found }
 {
     let (from, kind) = edge;
     if let Some(phase) = phase_before(kind, graph.node(from), graph.node(place.node), place.phase) {

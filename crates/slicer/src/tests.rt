@@ -87,8 +87,8 @@ fn calls(alloc: Global) -> Result<DependenceGraph, GraphFault> {
     graph_of(alloc, &nodes, &edges)
 }
 
-/// From a method's value to its caller's return at pc 3, on to the argument of a call at pc 7, into a method, and by an edge
-/// of that kind to its value, which returns at pc 9.
+/// From a method's value to its caller's return at pc 3, on to the argument of a call at pc 7, into a method, and by an
+/// edge of that kind to its value, which returns at pc 9.
 fn up_and_down(alloc: Global, kind: EdgeKind) -> Result<DependenceGraph, GraphFault> {
     let nodes = [
         (2, NodeKind::Value),

@@ -11,7 +11,7 @@ returns-in_ok-steps-in-Some c =
     let steps = c.in_ok-steps-in-Some.steps in
     record {
       start = refl;
-      steps = subst (λ xs. AreStepsToCriterion nodes xs c.args.from steps) e (subst (λ n. AreStepsToCriterion nodes found n steps) (c.in-Some.ensures.some.1 (criterion 0)) (c.in_ok-steps-in-Some.ensures (criterion 0)));
+      steps = subst (λ xs. AreStepsToCriterion nodes xs c.args.from steps) e (subst (λ n. AreStepsToCriterion nodes found n steps) (c.in-Some.ensures.node (criterion 0)) (c.in_ok-steps-in-Some.ensures (criterion 0)));
     }
 
 pub returns-in-None : goal.returns-in-None
