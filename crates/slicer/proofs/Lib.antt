@@ -1,0 +1,4 @@
+pub mod FindLemmas
+pub mod FitLemmas
+pub mod PhaseLemmas
+pub mod SearchLemmas

@@ -1,0 +1,3 @@
+pub mod Finds
+pub mod Phases
+pub mod Slices
