@@ -1,7 +1,7 @@
 -- A dependence graph that grows: its nodes, each with the edges that end at it, the flow edges that begin at it and its
 -- accesses, each once and in order of adding (this project's own).
-use Rattle.std.specs.Prelude.{◌≡◌, ◌⊎◌, ℕ, ◌+◌, ◌≤◌, List, [], ◌∷◌, ◌++◌, Result, Ok, Err, length, Contains, slice_get, slice_set, IsSomeAnd}
-use Rattle.std.specs.List.{sum_by}
+use Rattle.std.specs.Prelude.{◌≡◌, ◌⊎◌, ℕ, ◌+◌, ◌<◌, ◌≤◌, List, [], ◌∷◌, ◌++◌, Result, Ok, Err, length, Contains, slice_get, slice_set, IsSomeAnd}
+use Rattle.std.specs.List.{sum_by, AllByRecursion}
 use Rattle.jo_ids.specs.declared.LimitKind.TheVariants.{M5}
 use Rattle.dep_nodes.specs.declared.kinds.EdgeKind.{EdgeKind}
 use Rattle.dep_nodes.specs.declared.graphs.NodeName.{NodeName}
@@ -30,11 +30,23 @@ HasMostNodes nodes = length nodes ≡ 400000
 abbrev pub HasMostEdges : List GraphNode → Type 0
 HasMostEdges nodes = graph_size nodes ≡ 40000000
 
--- the counts that a graph keeps, and its limits
+-- ---- which nodes edges name
+
+-- the beginnings of the edges into the node, and the ends of its flow edges, are below the count
+pub record IsInside (count : ℕ) (node : GraphNode) : Type 0 where
+  pub edges : AllByRecursion (λ edge. edge.0 < count) node.edges
+  pub flows : AllByRecursion (λ end. end < count) node.flows
+
+-- all edges are between nodes of the graph
+abbrev pub HasIdsInside : List GraphNode → Type 0
+HasIdsInside nodes = AllByRecursion (IsInside (length nodes)) nodes
+
+-- the counts that a graph keeps, its limits, and that its edges are between its nodes
 pub record IsWithinLimits (nodes : List GraphNode) (count : ℕ) (size : ℕ) : Type 0 where
   pub nodes_within : count ≤ 400000
   pub counted : size ≡ graph_size nodes
   pub edges_within : size ≤ 40000000
+  pub inside : HasIdsInside nodes
 
 -- the answer is the limit exactly where the graph is full
 abbrev pub IsLimitedWhere : {A : Type 0} → Result A GraphFault → Type 0 → Type 0

@@ -1,5 +1,5 @@
 //! The dependence graph, which grows by nodes, edges and accesses.
-ghost use Rattle.std.specs.Prelude.{◌≡◌, ◌↔◌, ◌<◌, ◌++◌, ◌∷◌, [], length, slice_get, option_map, Contains, IfOk, OnErr, OnOk, IsTrue};
+ghost use Rattle.std.specs.Prelude.{◌≡◌, ◌↔◌, ◌<◌, ◌++◌, ◌∷◌, [], length, slice_get, option_map, All, Contains, IfOk, OnErr, OnOk, IsTrue};
 ghost use Rattle.dep_nodes.specs.GrowingGraphs.{bare, AddsEdge, AddsFlow, AddsAccess, HasEdge, HasAccess, IsLimitedWhere, HasMostNodes, HasMostEdges};
 
 use crate::accesses::{Access, Cell};
@@ -173,7 +173,8 @@ impl DependenceGraph {
     /// The dependence edges that end at a node, each with its beginning, in order of adding.
     pub fn edges_into(&self, node: NodeId) -> &[(NodeId, EdgeKind)]
         requires { node < length self.now }
-        ensures { option_map (λ n. n.edges) (slice_get self.now node) ≡ Some result.now }
+        ensures edges { option_map (λ n. n.edges) (slice_get self.now node) ≡ Some result.now }
+        ensures inside { All (λ edge. edge.0 < length self.now) result.now }
     {
         self.nodes[node.number() as usize].edges.as_slice()
     }
@@ -181,7 +182,8 @@ impl DependenceGraph {
     /// The ends of the flow edges that begin at a node, in order of adding.
     pub fn flows_from(&self, node: NodeId) -> &[NodeId]
         requires { node < length self.now }
-        ensures { option_map (λ n. n.flows) (slice_get self.now node) ≡ Some result.now }
+        ensures flows { option_map (λ n. n.flows) (slice_get self.now node) ≡ Some result.now }
+        ensures inside { All (λ end. end < length self.now) result.now }
     {
         self.nodes[node.number() as usize].flows.as_slice()
     }

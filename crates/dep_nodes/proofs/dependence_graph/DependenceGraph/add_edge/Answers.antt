@@ -1,6 +1,6 @@
-use Rattle.std.proofs.Common.{◌≡◌, ◌<◌, length, Contains, refl, ap, subst, arith, inl, inr}
+use Rattle.std.proofs.Common.{◌≡◌, ◌+◌, ◌<◌, length, Contains, refl, ap, ◌∙◌, subst, arith, sym, inl, inr}
 use Rattle.dep_nodes.specs.GrowingGraphs.{HasMostEdges, graph_size}
-use Rattle.dep_nodes.proofs.GrowingLemmas.{IsAt, is_at, holds_at, held_at, has, lacks, edge_added}
+use Rattle.dep_nodes.proofs.GrowingLemmas.{IsAt, is_at, holds_at, held_at, has, lacks, edge_added, inside_edge, size_set, one_more}
 use Rattle.dep_nodes.proofs.dependence_graph.DependenceGraph.add_edge.Goals as goal
 
 pub returns-then-has_edge-clause-ok : goal.returns-then-has_edge-clause-ok
@@ -41,3 +41,17 @@ returns-in-Ok-clause-ok c =
     let at : IsAt nodes c.args.self.now n c.args.to node = is_at nodes c.args.self.now n c.args.to node c.self.view_is c.number.ensures below c.index_mut-node.ensures.value in
     let new : Contains node.edges (c.args.from, c.args.kind) → ⊥ = lacks c.has_edge.result c.as_slice.result.now node.edges (c.args.from, c.args.kind) c.as_slice.ensures c.has_edge.ensures c.if-has_edge.false in
     edge_added nodes c.args.self.now n c.args.to node at c.args.from c.args.kind c.push.new.self (inr (new, c.in-Ok.ensures.ok))
+
+pub invariant_of-self-in-Ok : goal.invariant_of-self-in-Ok
+invariant_of-self-in-Ok c =
+    let nodes = c.self.inside.nodes.items in
+    let node = c.index_mut-node.result.now in
+    let n = c.number.result in
+    let below : n < length nodes = omega (arith, ap length c.self.view_is, c.requires.ends, c.number.ensures) in
+    let at : IsAt nodes c.args.self.now n c.args.to node = is_at nodes c.args.self.now n c.args.to node c.self.view_is c.number.ensures below c.index_mut-node.ensures.value in
+    record {
+      nodes_within = c.self.invariant.nodes_within;
+      counted = ap (λ k. k + 1) c.self.invariant.counted ∙ sym (size_set nodes c.args.self.now n c.args.to node (record node { edges = c.push.new.self }) at (omega (arith, one_more node.edges c.push.new.self (c.args.from, c.args.kind) c.in-Ok.ensures.ok)));
+      edges_within = omega (arith, c.if-self-ge-MOST_EDGES.false);
+      inside = inside_edge nodes c.args.self.now n c.args.to node at c.self.invariant.inside c.args.from c.args.kind c.push.new.self c.in-Ok.ensures.ok c.requires.begins;
+    }
