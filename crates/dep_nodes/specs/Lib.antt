@@ -3,5 +3,8 @@ pub mod Chains
 pub mod Conflicts
 pub mod Graphs
 pub mod GrowingGraphs
+pub mod ItemKeys
 pub mod Nodes
+pub mod OnceLists
+pub mod OneForm
 pub mod Regions

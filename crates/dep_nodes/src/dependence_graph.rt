@@ -1,11 +1,13 @@
 //! The dependence graph, which grows by nodes, edges and accesses.
 ghost use Rattle.std.specs.Prelude.{◌≡◌, ◌↔◌, ◌<◌, ◌++◌, ◌∷◌, [], length, slice_get, option_map, All, Contains, IfOk, OnErr, OnOk, IsTrue};
+ghost use Rattle.dep_nodes.specs.OneForm.{plain_cell};
 ghost use Rattle.dep_nodes.specs.GrowingGraphs.{bare, AddsEdge, AddsFlow, AddsAccess, HasEdge, HasAccess, IsLimitedWhere, HasMostNodes, HasMostEdges};
 
-use crate::accesses::{Access, Cell};
+use crate::accesses::{Access, Cell, in_one_form};
 use crate::graphs::NodeName;
 use crate::kinds::EdgeKind;
-use jo_ids::{Id, LimitKind, List, Memory, NodeId};
+use crate::once_lists::OnceList;
+use jo_ids::{Id, LimitKind, Memory, NodeId};
 use std::alloc::Global;
 use std::marker::Model;
 
@@ -26,9 +28,9 @@ pub enum GraphFault {
 #[derive(Drop)]
 pub struct GraphNode {
     pub name: NodeName,
-    pub edges: List<(NodeId, EdgeKind)>,
-    pub flows: List<NodeId>,
-    pub accesses: List<Access>,
+    pub edges: OnceList<(NodeId, EdgeKind)>,
+    pub flows: OnceList<NodeId>,
+    pub accesses: OnceList<Access>,
 }
 
 /// A dependence graph, which contracts see as the list of its nodes.
@@ -77,9 +79,9 @@ impl DependenceGraph {
         }
         let node = GraphNode {
             name,
-            edges: List::new(self.alloc),
-            flows: List::new(self.alloc),
-            accesses: List::new(self.alloc),
+            edges: OnceList::new(self.alloc),
+            flows: OnceList::new(self.alloc),
+            accesses: OnceList::new(self.alloc),
         };
         match self.nodes.push(node) {
             Ok(()) => Ok(Id::of(number as u32)),
@@ -97,13 +99,13 @@ impl DependenceGraph {
         ensures limit { IsLimitedWhere result (HasMostEdges self.old × ¬ (HasEdge self.old from kind to)) }
     {
         let node = &mut self.nodes[to.number() as usize];
-        if has_edge(node.edges.as_slice(), from, kind) {
+        if node.edges.has(&(from, kind)) {
             return Ok(());
         }
         if self.size >= MOST_EDGES {
             return Err(GraphFault::Limit(LimitKind::M5));
         }
-        match node.edges.push((from, kind)) {
+        match node.edges.push_new((from, kind)) {
             Ok(()) => {
                 self.size += 1;
                 Ok(())
@@ -121,32 +123,36 @@ impl DependenceGraph {
         ensures err { OnErr result (self.new ≡ self.old) }
     {
         let node = &mut self.nodes[from.number() as usize];
-        if has_flow(node.flows.as_slice(), to) {
+        if node.flows.has(&to) {
             return Ok(());
         }
-        match node.flows.push(to) {
+        match node.flows.push_new(to) {
             Ok(()) => Ok(()),
-            Err((_, memory)) => Err(memory),
+            Err(memory) => Err(memory),
         }
     }
 
-    /// Adds the access behind those of the same node, unless it is there.
+    /// Adds the access behind those of the same node, unless it is there. Its cell is kept in the one form of a cell, so two
+    /// names of one cell are one access.
     pub fn add_access(&mut self, node: NodeId, cell: Cell, write: bool) -> Result<(), GraphFault>
         requires { node < length self.old }
-        ensures ok { OnOk result (AddsAccess self.old self.new node (record { cell = cell; write = write })) }
+        ensures ok { OnOk result (AddsAccess self.old self.new node (record { cell = plain_cell cell; write = write })) }
         ensures count { length self.new ≡ length self.old }
         ensures err { OnErr result (self.new ≡ self.old) }
-        ensures limit { IsLimitedWhere result (HasMostEdges self.old × ¬ (HasAccess self.old node (record { cell = cell; write = write }))) }
+        ensures limit { IsLimitedWhere result (HasMostEdges self.old × ¬ (HasAccess self.old node (record { cell = plain_cell cell; write = write }))) }
     {
-        let access = Access { cell, write };
+        let access = Access {
+            cell: in_one_form(&cell),
+            write,
+        };
         let node = &mut self.nodes[node.number() as usize];
-        if has_access(node.accesses.as_slice(), &access) {
+        if node.accesses.has(&access) {
             return Ok(());
         }
         if self.size >= MOST_EDGES {
             return Err(GraphFault::Limit(LimitKind::M5));
         }
-        match node.accesses.push(access) {
+        match node.accesses.push_new(access) {
             Ok(()) => {
                 self.size += 1;
                 Ok(())
@@ -195,25 +201,4 @@ impl DependenceGraph {
     {
         self.nodes[node.number() as usize].accesses.as_slice()
     }
-}
-
-/// Whether the edge is one of these.
-fn has_edge(edges: &[(NodeId, EdgeKind)], from: NodeId, kind: EdgeKind) -> bool
-    ensures { IsTrue result ↔ Contains edges.now (from, kind) }
-{
-    edges.contains(&(from, kind))
-}
-
-/// Whether the node is one of these.
-fn has_flow(flows: &[NodeId], to: NodeId) -> bool
-    ensures { IsTrue result ↔ Contains flows.now to }
-{
-    flows.contains(&to)
-}
-
-/// Whether the access is one of these.
-fn has_access(accesses: &[Access], access: &Access) -> bool
-    ensures { IsTrue result ↔ Contains accesses.now access.now }
-{
-    accesses.contains(access)
 }

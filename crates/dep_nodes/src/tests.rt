@@ -1,5 +1,5 @@
 //! Small graphs, and chains by hand.
-ghost use Rattle.std.specs.Prelude.{◌≡◌, length, IfOk};
+ghost use Rattle.std.specs.Prelude.{◌≡◌, ◌<◌, length, IfOk};
 ghost use Rattle.dep_nodes.specs.Chains.{IsValidChain};
 ghost use Rattle.dep_nodes.specs.ChainExamples.{AnyEdge, call_node, in_and_back_to};
 
@@ -79,5 +79,28 @@ fn what_is_added_twice_is_there_once(rt: HostRuntime) -> Result<(), Fail> {
     assert_eq!(rt; counts(&graph), (2, 1, 2));
     assert_eq!(rt; graph.edges_into(entry).len(), 0);
     assert!(rt; graph.node(exit).kind == NodeKind::Exit);
+    Ok(())
+}
+
+/// A node with that many edges from nodes of their own, each added twice.
+fn star(alloc: Global, count: u32) -> Result<DependenceGraph, GraphFault>
+    ensures { IfOk result (λ graph. 0 < length graph) }
+{
+    let mut graph = DependenceGraph::new(alloc);
+    let end = graph.add_node(name(NodeKind::Exit))?;
+    'edges: for _ in 0..count {
+        let begin = graph.add_node(name(NodeKind::Entry))?;
+        graph.add_edge(begin, EdgeKind::Data, end)?;
+        graph.add_edge(begin, EdgeKind::Data, end)?;
+    }
+    Ok(graph)
+}
+
+#[test]
+fn many_edges_end_at_one_node(rt: HostRuntime) -> Result<(), Fail> {
+    let Ok(graph) = star(rt.alloc(), 50_000) else {
+        return Err(Fail::from("no room"));
+    };
+    assert_eq!(rt; graph.edges_into(Id::of(0)).len(), 50_000);
     Ok(())
 }

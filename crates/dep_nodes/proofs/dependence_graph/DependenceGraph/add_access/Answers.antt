@@ -1,5 +1,7 @@
-use Rattle.std.proofs.Common.{◌<◌, length, Contains, ap, arith, inr}
+use Rattle.std.proofs.Common.{◌≡◌, slice_set, subst, refl, ◌<◌, length, Contains, ap, arith, inr}
 use Rattle.dep_nodes.specs.declared.accesses.Access.{Access}
+use Rattle.dep_nodes.specs.OneForm.{plain_cell}
+use Rattle.dep_nodes.specs.GrowingGraphs.{AddsAccess}
 use Rattle.dep_nodes.proofs.GrowingLemmas.{IsAt, is_at, lacks, access_added}
 use Rattle.dep_nodes.proofs.dependence_graph.DependenceGraph.add_access.Goals as goal
 
@@ -10,6 +12,10 @@ returns-in-Ok-clause-ok c =
     let n = c.number.result in
     let below : n < length nodes = omega (arith, ap length c.self.view_is, c.requires, c.number.ensures) in
     let at : IsAt nodes c.args.self.now n c.args.node node = is_at nodes c.args.self.now n c.args.node node c.self.view_is c.number.ensures below c.index_mut-node.ensures.value in
-    let access : Access = record { cell = c.args.cell; write = c.args.write } in
-    let new : Contains node.accesses access → ⊥ = lacks c.has_access.result c.as_slice.result.now node.accesses access c.as_slice.ensures c.has_access.ensures c.if-has_access.false in
-    access_added nodes c.args.self.now n c.args.node node at access c.push.new.self (inr (new, c.in-Ok.ensures.ok))
+    let access : Access = record { cell = c.in_one_form.result; write = c.args.write } in
+    let same : c.in_one_form.result ≡ plain_cell c.args.cell = c.in_one_form.ensures in
+    let new : Contains node.accesses access → ⊥ = lacks c.has.result node.accesses node.accesses access refl c.has.ensures c.if-has.false in
+    subst (λ cell. AddsAccess c.args.self.now (slice_set nodes n (record node { accesses = c.push_new.new.self })) c.args.node (record { cell = cell; write = c.args.write })) same (access_added nodes c.args.self.now n c.args.node node at access c.push_new.new.self (inr (new, c.in-Ok.ensures.ok)))
+
+pub push_new-requires : goal.push_new-requires
+push_new-requires c = let node = c.index_mut-node.result.now in lacks c.has.result node.accesses node.accesses (record { cell = c.in_one_form.result; write = c.args.write }) refl c.has.ensures c.if-has.false

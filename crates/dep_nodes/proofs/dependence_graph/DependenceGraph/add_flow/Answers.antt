@@ -1,4 +1,4 @@
-use Rattle.std.proofs.Common.{◌<◌, length, Contains, ap, arith, inr}
+use Rattle.std.proofs.Common.{refl, ◌<◌, length, Contains, ap, arith, inr}
 use Rattle.dep_nodes.proofs.GrowingLemmas.{IsAt, is_at, lacks, flow_added}
 use Rattle.dep_nodes.proofs.dependence_graph.DependenceGraph.add_flow.Goals as goal
 use Rattle.dep_nodes.proofs.dependence_graph.DependenceGraph.add_flow.Goals.{in-Ok, in-Err}
@@ -10,8 +10,11 @@ returns-clause-ok c =
     let n = c.number.result in
     let below : n < length nodes = omega (arith, ap length c.self.view_is, c.requires.begins, c.number.ensures) in
     let at : IsAt nodes c.args.self.now n c.args.from node = is_at nodes c.args.self.now n c.args.from node c.self.view_is c.number.ensures below c.index_mut-node.ensures.value in
-    let new : Contains node.flows c.args.to → ⊥ = lacks c.has_flow.result c.as_slice.result.now node.flows c.args.to c.as_slice.ensures c.has_flow.ensures c.if-has_flow.false in
-    elim c.match-push.branch [
-      | in-Ok w ↦ rw w.result-is (flow_added nodes c.args.self.now n c.args.from node at c.args.to c.push.new.self (inr (new, w.in-Ok.ensures.ok)))
+    let new : Contains node.flows c.args.to → ⊥ = lacks c.has.result node.flows node.flows c.args.to refl c.has.ensures c.if-has.false in
+    elim c.match-push_new.branch [
+      | in-Ok w ↦ rw w.result-is (flow_added nodes c.args.self.now n c.args.from node at c.args.to c.push_new.new.self (inr (new, w.in-Ok.ensures.ok)))
       | in-Err w ↦ rw w.result-is tt
     ]
+
+pub push_new-requires : goal.push_new-requires
+push_new-requires c = let node = c.index_mut-node.result.now in lacks c.has.result node.flows node.flows c.args.to refl c.has.ensures c.if-has.false
