@@ -2,6 +2,7 @@ pub mod AccessTables
 pub mod BalancedPaths
 pub mod ChainExamples
 pub mod Chains
+pub mod Conflicts
 pub mod Graphs
 pub mod GrowingGraphs
 pub mod ItemKeys
@@ -9,3 +10,4 @@ pub mod Nodes
 pub mod OnceLists
 pub mod OneForm
 pub mod NumberedChains
+pub mod Regions

@@ -1,0 +1,3 @@
+pub mod Clashes
+pub mod Finding
+pub mod Sides

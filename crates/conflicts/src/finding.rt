@@ -1,0 +1,118 @@
+//! The search for a conflict, fork by fork.
+ghost use Rattle.std.specs.Prelude.{◌≡◌, ◌<◌, length};
+ghost use Rattle.thread_regions.specs.Regions.{AreRegions};
+ghost use Rattle.conflicts.specs.Finding.{IsIn, IsOrderAt, IsOrderAmong, IsDataFrom, IsDataAt, IsDataAmong, IsFirstConflict};
+
+use crate::clashes::clashing_node;
+use crate::sides::{Side, first_seen};
+use dep_nodes::DependenceGraph;
+use jo_ids::{BitRow, Id, NodeId};
+use thread_regions::{ForkRegions, Regions};
+
+/// Two nodes that conflict at a fork: the one runs in what the fork starts, the other behind the fork.
+#[derive(Clone, Copy)]
+pub struct Conflict {
+    /// Whether it is an order conflict; else it is a data conflict.
+    pub order: bool,
+    pub fork: NodeId,
+    pub inside: NodeId,
+    pub after: NodeId,
+}
+
+/// An order conflict between two nodes of `visible` if there is one, else a data conflict between two nodes of `leads`; none
+/// where there is neither. The regions are those of the graph. No memory.
+pub fn find(
+    graph: &DependenceGraph,
+    regions: &Regions,
+    visible: &BitRow,
+    leads: &BitRow,
+) -> Option<Conflict>
+    requires regions { AreRegions graph.now regions.now }
+    requires visible { length visible.now ≡ length graph.now }
+    requires leads { length leads.now ≡ length graph.now }
+    ensures { IsFirstConflict graph.now (IsIn visible.now) (IsIn leads.now) result }
+{
+    match order_conflict(regions.as_slice(), visible) {
+        Some(conflict) => Some(conflict),
+        None => data_conflict(graph, regions.as_slice(), leads),
+    }
+}
+
+/// An order conflict at the first fork that has one.
+fn order_conflict(forks: &[ForkRegions], visible: &BitRow) -> Option<Conflict>
+    ensures { IsOrderAmong forks.now visible.now result }
+{
+    for regions in forks {
+        if let Some(conflict) = order_at(regions, visible) {
+            return Some(conflict);
+        }
+    }
+    None
+}
+
+/// An order conflict at a fork.
+fn order_at(regions: &ForkRegions, visible: &BitRow) -> Option<Conflict>
+    ensures { IsOrderAt regions.now visible.now result }
+{
+    let inside = first_seen(regions, Side::Child, visible)?;
+    let after = first_seen(regions, Side::After, visible)?;
+    Some(Conflict {
+        order: true,
+        fork: regions.fork,
+        inside,
+        after,
+    })
+}
+
+/// A data conflict at the first fork that has one.
+fn data_conflict(graph: &DependenceGraph, forks: &[ForkRegions], leads: &BitRow) -> Option<Conflict>
+    requires { length leads.now ≡ length graph.now }
+    ensures { IsDataAmong graph.now forks.now leads.now result }
+{
+    for regions in forks {
+        if let Some(conflict) = data_at(graph, regions, leads) {
+            return Some(conflict);
+        }
+    }
+    None
+}
+
+/// A data conflict at a fork.
+fn data_at(graph: &DependenceGraph, regions: &ForkRegions, leads: &BitRow) -> Option<Conflict>
+    requires { length leads.now ≡ length graph.now }
+    ensures { IsDataAt graph.now regions.now leads.now result }
+{
+    for n in 0..graph.len() {
+        match data_from(graph, regions, leads, n) {
+            Some(conflict) => return Some(conflict),
+            None => {}
+        }
+    }
+    None
+}
+
+/// A data conflict at a fork, with that node in the child region.
+fn data_from(
+    graph: &DependenceGraph,
+    regions: &ForkRegions,
+    leads: &BitRow,
+    n: u32,
+) -> Option<Conflict>
+    requires node { n < length graph.now }
+    requires leads { length leads.now ≡ length graph.now }
+    ensures { IsDataFrom graph.now regions.now leads.now n result }
+{
+    let inside = Id::of(n);
+    if !leads.has(n) || !regions.in_child(inside) {
+        return None;
+    }
+    match clashing_node(graph, regions, leads, graph.accesses(inside)) {
+        Some(after) => Some(Conflict {
+            order: false,
+            fork: regions.fork,
+            inside,
+            after,
+        }),
+        None => None,
+    }
+}

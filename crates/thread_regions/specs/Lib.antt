@@ -1,0 +1,4 @@
+pub mod Forks
+pub mod Places
+pub mod Regions
+pub mod Searches

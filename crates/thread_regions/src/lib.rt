@@ -1,0 +1,15 @@
+//! The regions of the forks of a dependence graph: what each started thread may run, and what may run behind its start.
+#![tactic(auto)]
+
+mod finding;
+mod forks;
+mod places;
+mod search;
+mod tables;
+
+pub use finding::regions;
+pub use jo_ids::Memory;
+pub use tables::{ForkRegions, Regions};
+
+#[cfg(test)]
+mod tests;
