@@ -4,7 +4,7 @@ ghost use Rattle.dep_nodes.specs.Chains.{IsValidChain};
 ghost use Rattle.dep_nodes.specs.ChainExamples.{AnyEdge, call_node, in_and_back_to};
 
 use crate::{Access, Cell, DependenceGraph, EdgeKind, GraphFault, NodeKind, NodeName, SiteList};
-use jo_ids::{Id, MethodId, NodeId};
+use jo_ids::{Id, LimitKind, MethodId, NodeId};
 use std::alloc::Global;
 use std::test::Fail;
 
@@ -113,5 +113,28 @@ fn many_edges_end_at_one_node(rt: HostRuntime) -> Result<(), Fail> {
         return Err(Fail::from("no room"));
     };
     assert_eq!(rt; graph.edges_into(Id::of(0)).len(), 50_000);
+    Ok(())
+}
+
+/// A graph of that many nodes.
+fn nodes(alloc: Global, count: u32) -> Result<DependenceGraph, GraphFault> {
+    let mut graph = DependenceGraph::new(alloc);
+    'nodes: for _ in 0..count {
+        graph.add_node(name(NodeKind::Kind))?;
+    }
+    Ok(graph)
+}
+
+#[test]
+fn a_full_graph_takes_no_node(rt: HostRuntime) -> Result<(), Fail> {
+    let Ok(mut graph) = nodes(rt.alloc(), 400_000) else {
+        return Err(Fail::from("no room"));
+    };
+    let refused = match graph.add_node(name(NodeKind::Value)) {
+        Ok(_) => None,
+        Err(fault) => Some(fault),
+    };
+    assert!(rt; refused == Some(GraphFault::Limit(LimitKind::M5)));
+    assert_eq!(rt; graph.len(), 400_000);
     Ok(())
 }

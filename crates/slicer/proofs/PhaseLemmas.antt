@@ -9,7 +9,7 @@ use Rattle.dep_nodes.specs.declared.chains.Word.TheVariants.{Edge, Pass}
 use Rattle.dep_nodes.specs.Nodes.{Node, CallSite, call_site, pc_of}
 use Rattle.dep_nodes.specs.Chains.{same_site, opened, closed, returned, adv, goes_in, StaysWithin, MatchedOver, arrived, onwards, IsPassOver, StepsOnOver, LinkTo, IsChainOver, LeavesOpenOver, HasChainOver, end_of}
 use Rattle.dep_nodes.proofs.ChainLemmas.{path_then}
-use Rattle.summary_edges.proofs.CallLemmas.{sites_equal, site_itself}
+use Rattle.dep_nodes.proofs.Sites.{sites_equal, site_itself}
 use Rattle.slicer.specs.declared.finds.Phase.{Phase}
 use Rattle.slicer.specs.declared.finds.Phase.TheVariants.{First, Second}
 use Rattle.slicer.specs.Phases.{has_pc, before_call, before_return, phase_before, LeadsOver, MayBeOpen, FitsCall}
