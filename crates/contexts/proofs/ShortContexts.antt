@@ -2,7 +2,8 @@
 use Rattle.std.specs.Prelude.{ℕ, List, length, ◌≤◌}
 use Rattle.contexts.specs.Policies.{ContextPolicy, KeepsTwo, IsContext, starts, calls, calls_on, makes}
 
-pub short : (policy : ContextPolicy) → KeepsTwo policy → (sites : List ℕ) → IsContext policy sites → length sites ≤ 2
+pub short : (policy : ContextPolicy) → KeepsTwo policy → (sites : List ℕ) → IsContext policy sites
+    → length sites ≤ 2
 short policy keeps _ starts = keeps.root
 short policy keeps _ (calls caller site is) = keeps.call caller site (short policy keeps caller is)
 short policy keeps _ (calls_on caller context site made_at is made) =

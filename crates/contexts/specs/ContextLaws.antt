@@ -79,7 +79,8 @@ one_decided None None = (λ e. refl, λ e. refl)
 one_decided None (Some b) = (λ e. absurd (cc), λ e. absurd (cc))
 one_decided (Some a) None = (λ e. absurd (cc), λ e. absurd (cc))
 one_decided (Some a) (Some b) =
-    Decides-like (a.number == b.number) (λ (e : a ≡ b). ap Some e) (λ (e : Some a ≡ Some b). cc) (site_decided a b)
+    Decides-like (a.number == b.number) (λ (e : a ≡ b). ap Some e) (λ (e : Some a ≡ Some b). cc)
+    (site_decided a b)
 
 pub two_decided : (a b : UpToTwo) → Decides (of_two.eq a b) (a ≡ b)
 two_decided NoSite NoSite = (λ e. refl, λ e. refl)

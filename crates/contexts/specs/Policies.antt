@@ -1,5 +1,5 @@
--- Context policies over lists of sites: in which context a method is called and an object made. Objects as contexts are
--- of Milanova, Rountev and Ryder (2005), contexts of objects of Smaragdakis, Bravenboer and Lhotak (2011).
+-- Context policies over lists of sites: in which context a method is called and an object made. Objects as contexts
+-- are of Milanova, Rountev and Ryder (2005), contexts of objects of Smaragdakis, Bravenboer and Lhotak (2011).
 use Rattle.std.specs.Prelude.{ℕ, List, [], ◌∷◌, take, length, ◌≤◌, Option, Some, None}
 use Rattle.jo_ids.specs.declared.ObjKey.{ObjKey}
 
@@ -15,8 +15,8 @@ receiver_at site context = record { site = site; context = context }
 abbrev pub receiver_of : {C : Type 0} → (C → List ℕ) → ObjKey C → Receiver
 receiver_of list object = record { site = object.site; context = list object.context }
 
--- the context in which the program starts, that of what is called by a caller in its context at a site on a receiver (if
--- it has one), and that of an object which is made in a method's context at a site
+-- the context in which the program starts, that of what is called by a caller in its context at a site on a receiver
+-- (if it has one), and that of an object which is made in a method's context at a site
 pub record ContextPolicy : Type 0 where
   pub root : List ℕ
   pub enter : List ℕ → ℕ → Option Receiver → List ℕ
@@ -40,8 +40,8 @@ one_object_sensitive =
       heap = λ context site. [];
     }
 
--- the receiver's site and the first of its context (the site of the object whose method makes it), and the caller's
--- context where there is no receiver
+-- the receiver's site and the first of its context (the site of the object whose method makes it), and the
+-- caller's context where there is no receiver
 abbrev pub receiver_and_its_maker : List ℕ → Option Receiver → List ℕ
 receiver_and_its_maker caller None = caller
 receiver_and_its_maker caller (Some receiver) = receiver.site ∷ take 1 receiver.context
@@ -58,10 +58,12 @@ two_object_sensitive =
 -- a context that the policy gives to a method or an object: from the root by calls and objects made
 pub data IsContext (policy : ContextPolicy) : List ℕ → Type 0 where
   starts : IsContext policy policy.root
-  calls : (caller : List ℕ) (site : ℕ) → IsContext policy caller → IsContext policy (policy.enter caller site None)
+  calls : (caller : List ℕ) (site : ℕ) → IsContext policy caller
+      → IsContext policy (policy.enter caller site None)
   calls_on : (caller context : List ℕ) (site made_at : ℕ) → IsContext policy caller → IsContext policy context
       → IsContext policy (policy.enter caller site (Some (receiver_at made_at context)))
-  makes : (context : List ℕ) (site : ℕ) → IsContext policy context → IsContext policy (policy.heap context site)
+  makes : (context : List ℕ) (site : ℕ) → IsContext policy context
+      → IsContext policy (policy.heap context site)
 
 -- no context has more than two sites where those that it is made from have not
 pub record KeepsTwo (policy : ContextPolicy) : Type 0 where

@@ -32,10 +32,11 @@ pub trait Contexts {
     fn root(&self) -> Self::C
         ensures { list result ≡ (policy self.now).root };
 
-    /// The context of what is called at `site` by a method in the context `caller`. The receiver's context is that of the
+    /// The context of what is called at `site` by a method in the context `caller`. A receiver has its context as an
     /// object.
     fn enter(&self, caller: Self::C, site: SiteId, receiver: Option<ObjKey<Self::C>>) -> Self::C
-        ensures { list result ≡ (policy self.now).enter (list caller) site (option_map (receiver_of list) receiver) };
+        ensures { list result ≡
+            (policy self.now).enter (list caller) site (option_map (receiver_of list) receiver) };
 
     /// The context of an object that is made at `site` by a method in that context.
     fn heap(&self, context: Self::C, site: SiteId) -> Self::C

@@ -14,7 +14,8 @@ pub struct NoContext;
 #[derive(Clone, Copy)]
 pub struct Object1;
 
-/// Methods by the site that makes their receiver and that of the object whose method made it, objects by the latter.
+/// Methods by the site that makes their receiver and that of the object whose method made it, objects by the
+/// latter.
 #[derive(Clone, Copy)]
 pub struct Object2;
 
@@ -40,7 +41,8 @@ impl Contexts for NoContext {
     fn root(&self) {}
 
     fn enter(&self, caller: (), site: SiteId, receiver: Option<ObjKey<()>>)
-        ensures { no_site result ≡ insensitive.enter (no_site caller) site (option_map (receiver_of no_site) receiver) }
+        ensures { no_site result ≡
+            insensitive.enter (no_site caller) site (option_map (receiver_of no_site) receiver) }
     {}
 
     fn heap(&self, _context: (), _site: SiteId) {}
@@ -80,7 +82,8 @@ impl Contexts for Object1 {
         receiver: Option<ObjKey<Option<ContextSite>>>,
     ) -> Option<ContextSite>
         ensures { at_most_one result ≡
-            one_object_sensitive.enter (at_most_one caller) site (option_map (receiver_of at_most_one) receiver) }
+            one_object_sensitive.enter (at_most_one caller) site
+            (option_map (receiver_of at_most_one) receiver) }
     {
         match receiver {
             None => caller,
@@ -125,7 +128,8 @@ impl Contexts for Object2 {
 
     fn enter(&self, caller: UpToTwo, site: SiteId, receiver: Option<ObjKey<UpToTwo>>) -> UpToTwo
         ensures { up_to_two result ≡
-            two_object_sensitive.enter (up_to_two caller) site (option_map (receiver_of up_to_two) receiver) }
+            two_object_sensitive.enter (up_to_two caller) site
+            (option_map (receiver_of up_to_two) receiver) }
     {
         let Some(object) = receiver else {
             return caller;

@@ -6,7 +6,7 @@ fn shown<X: Contexts>(contexts: &X, context: X::C) -> (u8, u32, u32) {
     (sites.len, sites.first.number(), sites.second.number())
 }
 
-/// The context of a method that is called at the site 1 on an object, which a method in the context `maker` makes.
+/// The context of a method that is called at the site 1 on an object which a method in the context `maker` makes.
 fn called_on<X: Contexts>(contexts: &X, maker: X::C, site: u32) -> X::C {
     let site = SiteId::of(site);
     let object = ObjKey {
@@ -16,8 +16,8 @@ fn called_on<X: Contexts>(contexts: &X, maker: X::C, site: u32) -> X::C {
     contexts.enter(contexts.root(), SiteId::of(1), Some(object))
 }
 
-/// A method of an object that main makes at 3, one of an object that the former makes at 5, one of an object that this
-/// makes at 7, and what the last calls without a receiver.
+/// A method of an object that main makes at 3, one of an object that the former makes at 5, one of an object that
+/// this makes at 7, and what the last calls without a receiver.
 fn nested<X: Contexts>(contexts: &X) -> [(u8, u32, u32); 4] {
     let third = called_on(contexts, contexts.root(), 3);
     let fifth = called_on(contexts, third, 5);
