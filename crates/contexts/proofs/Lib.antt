@@ -1,0 +1,2 @@
+pub mod ShortContexts
+pub mod SiteListLemmas
