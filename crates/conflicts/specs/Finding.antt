@@ -86,8 +86,11 @@ IsDataAtCell at r leads None = (a b : Accessor) → AreClashing r leads at.acces
 IsDataAtCell at r leads (Some c) = IsAtCell at r leads c
 
 abbrev pub IsDataAtCells : List CellAccesses → ForkRegions → List Bool → Option Conflict → Type 0
-IsDataAtCells cells r leads None = (k : ℕ) (at : CellAccesses) → slice_get cells k ≡ Some at → (a b : Accessor) → AreClashing r leads at.accessors a b → ⊥
-IsDataAtCells cells r leads (Some c) = (k : ℕ) × (at : CellAccesses) × (slice_get cells k ≡ Some at) × IsAtCell at r leads c
+IsDataAtCells cells r leads None =
+    (k : ℕ) (at : CellAccesses) → slice_get cells k ≡ Some at
+    → (a b : Accessor) → AreClashing r leads at.accessors a b → ⊥
+IsDataAtCells cells r leads (Some c) =
+    (k : ℕ) × (at : CellAccesses) × (slice_get cells k ≡ Some at) × IsAtCell at r leads c
 
 abbrev pub IsDataAt : List GraphNode → ForkRegions → List Bool → Option Conflict → Type 0
 IsDataAt nodes r leads None = (a b : ℕ) → AreClashingAt nodes r leads a b → ⊥
