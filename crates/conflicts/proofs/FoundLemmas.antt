@@ -1,15 +1,15 @@
 -- What is found among the regions of a graph is a conflict of the graph.
-use Rattle.std.proofs.Common.{◌≡◌, ◌⊎◌, inl, inr, ℕ, Bool, true, false, List, Option, Some, None, slice_get, refl, sym, ◌∙◌, ap, subst}
+use Rattle.std.proofs.Common.{◌≡◌, inl, inr, ℕ, Bool, true, List, Option, Some, None, slice_get, sym, subst}
 use Rattle.jo_ids.specs.Rows.{has_number}
 use Rattle.dep_nodes.specs.declared.accesses.Access.{Access}
 use Rattle.dep_nodes.specs.declared.dependence_graph.GraphNode.{GraphNode}
 use Rattle.dep_nodes.specs.Regions.{ParallelAt}
-use Rattle.dep_nodes.specs.Conflicts.{Clash, MayClash, OrderConflict, DataConflict}
+use Rattle.dep_nodes.specs.Conflicts.{Clash, MayClash}
 use Rattle.thread_regions.specs.declared.tables.ForkRegions.{ForkRegions}
 use Rattle.thread_regions.specs.Regions.{AreRegions}
 use Rattle.thread_regions.proofs.TableLemmas.{stands_at, is_parallel, has_parallel}
 use Rattle.conflicts.specs.declared.finding.Conflict.{Conflict}
-use Rattle.conflicts.specs.Finding.{IsIn, IsOrderConflict, IsDataConflict, HasNoOrderConflict, HasNoDataConflict, IsConflictOfKind, IsFirstConflict, AreSeenAt, AreClashingAt, IsAt, IsOrderAmong, IsDataAmong}
+use Rattle.conflicts.specs.Finding.{IsIn, IsOrderConflict, IsDataConflict, HasNoOrderConflict, HasNoDataConflict, IsConflictOfKind, IsFirstConflict, IsOrderAmong, IsDataAmong}
 
 swapped : (a b : Access) → Clash a b → Clash b a
 swapped a b c = record { same_cell = sym c.same_cell; writes = elim c.writes [ inl first ↦ inr first | inr second ↦ inl second ] }

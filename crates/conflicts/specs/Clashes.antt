@@ -1,35 +1,50 @@
--- Accesses that clash with others (this project's own).
-use Rattle.std.specs.Prelude.{◌≡◌, ℕ, Bool, true, List, Option, Some, None, Contains}
+-- Accessors of one cell on the two sides of a fork, one of them writing (this project's own).
+use Rattle.std.specs.Prelude.{◌≡◌, ◌⊎◌, Bool, true, List, Option, Some, None, Contains}
 use Rattle.jo_ids.specs.Rows.{has_number}
-use Rattle.dep_nodes.specs.declared.accesses.Access.{Access}
-use Rattle.dep_nodes.specs.declared.dependence_graph.GraphNode.{GraphNode}
-use Rattle.dep_nodes.specs.GrowingGraphs.{HasAccess}
-use Rattle.dep_nodes.specs.Conflicts.{Clash}
+use Rattle.dep_nodes.specs.declared.access_table.Accessor.{Accessor}
 use Rattle.thread_regions.specs.declared.tables.ForkRegions.{ForkRegions}
+use Rattle.conflicts.specs.declared.clashes.Wanted.{Wanted}
+use Rattle.conflicts.specs.declared.clashes.Wanted.TheVariants.{Any, Write}
 
--- the access clashes with one of the others
-pub record Meets (access : Access) (others : List Access) : Type 0 where
-  pub other : Access
-  pub among : Contains others other
-  pub clash : Clash access other
+-- whether an access is wanted, by whether it writes
+abbrev pub counts : Wanted → Bool → Bool
+counts Any writes = true
+counts Write writes = writes
 
--- an access of the one list clashes with one of the other
-pub record Meeting (accesses others : List Access) : Type 0 where
-  pub access : Access
-  pub among : Contains accesses access
-  pub meets : Meets access others
+-- the accessor leads on, may run on the side, and is wanted
+pub record IsOn (side leads : List Bool) (wanted : Wanted) (x : Accessor) : Type 0 where
+  pub leads_on : has_number leads x.node ≡ true
+  pub on_side : has_number side x.node ≡ true
+  pub is_wanted : counts wanted x.write ≡ true
 
--- the node leads on, may run behind the fork, and has an access that clashes with one of these
-pub record IsClashingAfter (nodes : List GraphNode) (r : ForkRegions) (leads : List Bool) (accesses : List Access) (n : ℕ) : Type 0 where
-  pub leads_on : has_number leads n ≡ true
-  pub in_after : has_number r.after n ≡ true
-  pub access : Access
-  pub other : Access
-  pub among : Contains accesses access
-  pub has_other : HasAccess nodes n other
-  pub clash : Clash access other
+-- such an accessor, or there is none
+abbrev pub IsAccessorOn : List Bool → List Bool → Wanted → List Accessor → Option Accessor → Type 0
+IsAccessorOn side leads wanted accessors None =
+    (x : Accessor) → Contains accessors x → IsOn side leads wanted x → ⊥
+IsAccessorOn side leads wanted accessors (Some x) = Contains accessors x × IsOn side leads wanted x
 
--- such a node, or there is none
-abbrev pub IsClashingNode : List GraphNode → ForkRegions → List Bool → List Access → Option ℕ → Type 0
-IsClashingNode nodes r leads accesses None = (n : ℕ) → IsClashingAfter nodes r leads accesses n → ⊥
-IsClashingNode nodes r leads accesses (Some n) = IsClashingAfter nodes r leads accesses n
+-- the one accessor may run in what the fork starts, the other behind the fork
+pub record AreOnBoth (r : ForkRegions) (leads : List Bool) (inside after : Wanted) (accessors : List Accessor)
+    (a b : Accessor) : Type 0 where
+  pub has_first : Contains accessors a
+  pub has_second : Contains accessors b
+  pub is_inside : IsOn r.child leads inside a
+  pub is_after : IsOn r.after leads after b
+
+-- two such accessors, or there are none
+abbrev pub IsOnBoth : ForkRegions → List Bool → Wanted → Wanted → List Accessor
+    → Option (Accessor × Accessor) → Type 0
+IsOnBoth r leads inside after accessors None =
+    (a b : Accessor) → AreOnBoth r leads inside after accessors a b → ⊥
+IsOnBoth r leads inside after accessors (Some both) = AreOnBoth r leads inside after accessors both.0 both.1
+
+-- two accessors on the two sides of the fork, one of them writing
+pub record AreClashing (r : ForkRegions) (leads : List Bool) (accessors : List Accessor)
+    (a b : Accessor) : Type 0 where
+  pub on_both : AreOnBoth r leads Any Any accessors a b
+  pub writes : (a.write ≡ true) ⊎ (b.write ≡ true)
+
+-- two such accessors, or there are none
+abbrev pub IsClash : ForkRegions → List Bool → List Accessor → Option (Accessor × Accessor) → Type 0
+IsClash r leads accessors None = (a b : Accessor) → AreClashing r leads accessors a b → ⊥
+IsClash r leads accessors (Some both) = AreClashing r leads accessors both.0 both.1

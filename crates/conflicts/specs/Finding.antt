@@ -1,11 +1,14 @@
 -- Which conflict is found, fork by fork (this project's own).
 use Rattle.std.specs.Prelude.{◌≡◌, ℕ, Bool, true, false, List, Option, Some, None, slice_get}
 use Rattle.jo_ids.specs.Rows.{has_number}
+use Rattle.dep_nodes.specs.declared.access_table.Accessor.{Accessor}
+use Rattle.dep_nodes.specs.declared.access_table.CellAccesses.{CellAccesses}
 use Rattle.dep_nodes.specs.declared.dependence_graph.GraphNode.{GraphNode}
 use Rattle.dep_nodes.specs.Regions.{ParallelAt}
 use Rattle.dep_nodes.specs.Conflicts.{MayClash, OrderConflict, DataConflict}
 use Rattle.thread_regions.specs.declared.tables.ForkRegions.{ForkRegions}
 use Rattle.conflicts.specs.declared.finding.Conflict.{Conflict}
+use Rattle.conflicts.specs.Clashes.{AreClashing}
 
 -- ---- the answer
 
@@ -71,9 +74,23 @@ abbrev pub IsOrderAmong : List ForkRegions → List Bool → Option Conflict →
 IsOrderAmong forks seen None = (k : ℕ) (r : ForkRegions) → slice_get forks k ≡ Some r → (a b : ℕ) → AreSeenAt r seen a b → ⊥
 IsOrderAmong forks seen (Some c) = (k : ℕ) × (r : ForkRegions) × (slice_get forks k ≡ Some r) × IsAt r (AreSeenAt r seen) true c
 
-abbrev pub IsDataFrom : List GraphNode → ForkRegions → List Bool → ℕ → Option Conflict → Type 0
-IsDataFrom nodes r leads n None = (b : ℕ) → AreClashingAt nodes r leads n b → ⊥
-IsDataFrom nodes r leads n (Some c) = IsAt r (AreClashingAt nodes r leads) false c
+-- a data conflict at the fork between two accessors of the cell
+pub record IsAtCell (at : CellAccesses) (r : ForkRegions) (leads : List Bool) (c : Conflict) : Type 0 where
+  pub first : Accessor
+  pub second : Accessor
+  pub clashing : AreClashing r leads at.accessors first second
+  pub is : c ≡ record { order = false; fork = r.fork; inside = first.node; after = second.node }
+
+abbrev pub IsDataAtCell : CellAccesses → ForkRegions → List Bool → Option Conflict → Type 0
+IsDataAtCell at r leads None = (a b : Accessor) → AreClashing r leads at.accessors a b → ⊥
+IsDataAtCell at r leads (Some c) = IsAtCell at r leads c
+
+abbrev pub IsDataAtCells : List CellAccesses → ForkRegions → List Bool → Option Conflict → Type 0
+IsDataAtCells cells r leads None =
+    (k : ℕ) (at : CellAccesses) → slice_get cells k ≡ Some at
+    → (a b : Accessor) → AreClashing r leads at.accessors a b → ⊥
+IsDataAtCells cells r leads (Some c) =
+    (k : ℕ) × (at : CellAccesses) × (slice_get cells k ≡ Some at) × IsAtCell at r leads c
 
 abbrev pub IsDataAt : List GraphNode → ForkRegions → List Bool → Option Conflict → Type 0
 IsDataAt nodes r leads None = (a b : ℕ) → AreClashingAt nodes r leads a b → ⊥

@@ -1,70 +1,91 @@
-//! Accesses to one cell, one of them writing.
-ghost use Rattle.std.specs.Prelude.{◌≡◌, ◌↔◌, ◌<◌, length, Contains, IsTrue};
-ghost use Rattle.conflicts.specs.Clashes.{Meets, Meeting, IsClashingAfter, IsClashingNode};
+//! Accessors of one cell on the two sides of a fork, one of them writing.
+ghost use Rattle.std.specs.Prelude.{◌≡◌, ◌↔◌, IsTrue};
+ghost use Rattle.conflicts.specs.Sides.{side_of};
+ghost use Rattle.conflicts.specs.Clashes.{counts, IsOn, IsAccessorOn, IsOnBoth, IsClash};
 
-use dep_nodes::{Access, Cell, DependenceGraph};
-use jo_ids::{BitRow, Id, NodeId};
+use crate::sides::{Side, is_on};
+use dep_nodes::Accessor;
+use jo_ids::BitRow;
 use thread_regions::ForkRegions;
 
-/// The first node that leads on, may run behind the fork and clashes with one of these accesses.
-pub fn clashing_node(
-    graph: &DependenceGraph,
+/// Which accesses of a cell are looked for.
+#[derive(Clone, Copy)]
+pub enum Wanted {
+    Any,
+    Write,
+}
+
+/// An accessor that the fork's thread may run and one that may run behind the fork; both lead on, and one writes. Linear in
+/// the accessors, which are those of one cell.
+pub fn clash(
     regions: &ForkRegions,
     leads: &BitRow,
-    accesses: &[Access],
-) -> Option<NodeId>
-    requires { length leads.now ≡ length graph.now }
-    ensures { IsClashingNode graph.now regions.now leads.now accesses.now result }
+    accessors: &[Accessor],
+) -> Option<(Accessor, Accessor)>
+    ensures { IsClash regions.now leads.now accessors.now result }
 {
-    for n in 0..graph.len() {
-        if is_clashing(graph, regions, leads, accesses, n) {
-            return Some(Id::of(n));
+    match on_both(regions, leads, accessors, Wanted::Write, Wanted::Any) {
+        Some(both) => Some(both),
+        None => on_both(regions, leads, accessors, Wanted::Any, Wanted::Write),
+    }
+}
+
+/// The first of these accessors on each side of the fork.
+fn on_both(
+    regions: &ForkRegions,
+    leads: &BitRow,
+    accessors: &[Accessor],
+    inside: Wanted,
+    after: Wanted,
+) -> Option<(Accessor, Accessor)>
+    ensures { IsOnBoth regions.now leads.now inside after accessors.now result }
+{
+    let first = first_on(regions, Side::Child, leads, accessors, inside)?;
+    let second = first_on(regions, Side::After, leads, accessors, after)?;
+    Some((first, second))
+}
+
+/// The first wanted accessor that leads on and may run on that side.
+fn first_on(
+    regions: &ForkRegions,
+    side: Side,
+    leads: &BitRow,
+    accessors: &[Accessor],
+    wanted: Wanted,
+) -> Option<Accessor>
+    ensures { IsAccessorOn (side_of regions.now side) leads.now wanted accessors.now result }
+{
+    for accessor in accessors {
+        if is_found(regions, side, leads, accessor, wanted) {
+            return Some(*accessor);
         }
     }
     None
 }
 
-/// Whether the node is such a node.
-fn is_clashing(
-    graph: &DependenceGraph,
+/// Whether the accessor is such a one.
+fn is_found(
     regions: &ForkRegions,
+    side: Side,
     leads: &BitRow,
-    accesses: &[Access],
-    n: u32,
+    accessor: &Accessor,
+    wanted: Wanted,
 ) -> bool
-    requires node { n < length graph.now }
-    requires leads { length leads.now ≡ length graph.now }
-    ensures { IsTrue result ↔ IsClashingAfter graph.now regions.now leads.now accesses.now n }
+    ensures { IsTrue result ↔ IsOn (side_of regions.now side) leads.now wanted accessor.now }
 {
-    let node = Id::of(n);
-    leads.has(n) && regions.in_after(node) && meet(accesses, graph.accesses(node))
+    let number = accessor.node.number();
+    number < leads.len()
+        && leads.has(number)
+        && is_on(regions, side, accessor.node)
+        && is_wanted(accessor, wanted)
 }
 
-/// Whether two of these accesses clash.
-fn meet(accesses: &[Access], others: &[Access]) -> bool
-    ensures { IsTrue result ↔ Meeting accesses.now others.now }
+/// Whether the access is wanted.
+fn is_wanted(accessor: &Accessor, wanted: Wanted) -> bool
+    ensures { result ≡ counts wanted accessor.now.write }
 {
-    for access in accesses {
-        if meets_one(access, others) {
-            return true;
-        }
+    match wanted {
+        Wanted::Any => true,
+        Wanted::Write => accessor.write,
     }
-    false
-}
-
-/// Whether the access clashes with one of the others.
-fn meets_one(access: &Access, others: &[Access]) -> bool
-    ensures { IsTrue result ↔ Meets access.now others.now }
-{
-    if has(others, access.cell, true) {
-        return true;
-    }
-    access.write && has(others, access.cell, false)
-}
-
-/// Whether the cell is so accessed.
-fn has(accesses: &[Access], cell: Cell, write: bool) -> bool
-    ensures { IsTrue result ↔ Contains accesses.now (record { cell = cell; write = write }) }
-{
-    accesses.contains(&Access { cell, write })
 }

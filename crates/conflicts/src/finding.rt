@@ -1,11 +1,11 @@
 //! The search for a conflict, fork by fork.
-ghost use Rattle.std.specs.Prelude.{◌≡◌, ◌<◌, length};
+ghost use Rattle.std.specs.Prelude.{◌≡◌, length};
 ghost use Rattle.thread_regions.specs.Regions.{AreRegions};
-ghost use Rattle.conflicts.specs.Finding.{IsIn, IsOrderAt, IsOrderAmong, IsDataFrom, IsDataAt, IsDataAmong, IsFirstConflict};
+ghost use Rattle.conflicts.specs.Finding.{IsIn, IsOrderAt, IsOrderAmong, IsDataAtCell, IsDataAtCells, IsDataAt, IsDataAmong, IsFirstConflict};
 
-use crate::clashes::clashing_node;
+use crate::clashes::clash;
 use crate::sides::{Side, first_seen};
-use dep_nodes::DependenceGraph;
+use dep_nodes::{CellAccesses, DependenceGraph};
 use jo_ids::{BitRow, Id, NodeId};
 use thread_regions::{ForkRegions, Regions};
 
@@ -20,7 +20,7 @@ pub struct Conflict {
 }
 
 /// An order conflict between two nodes of `visible` if there is one, else a data conflict between two nodes of `leads`; none
-/// where there is neither. The regions are those of the graph. No memory.
+/// where there is neither. The regions are those of the graph. No memory; linear in the nodes and accesses for each fork.
 pub fn find(
     graph: &DependenceGraph,
     regions: &Regions,
@@ -66,7 +66,6 @@ fn order_at(regions: &ForkRegions, visible: &BitRow) -> Option<Conflict>
 
 /// A data conflict at the first fork that has one.
 fn data_conflict(graph: &DependenceGraph, forks: &[ForkRegions], leads: &BitRow) -> Option<Conflict>
-    requires { length leads.now ≡ length graph.now }
     ensures { IsDataAmong graph.now forks.now leads.now result }
 {
     for regions in forks {
@@ -77,42 +76,34 @@ fn data_conflict(graph: &DependenceGraph, forks: &[ForkRegions], leads: &BitRow)
     None
 }
 
-/// A data conflict at a fork.
+/// A data conflict at a fork. Linear in the accesses of the graph.
 fn data_at(graph: &DependenceGraph, regions: &ForkRegions, leads: &BitRow) -> Option<Conflict>
-    requires { length leads.now ≡ length graph.now }
     ensures { IsDataAt graph.now regions.now leads.now result }
 {
-    for n in 0..graph.len() {
-        match data_from(graph, regions, leads, n) {
-            Some(conflict) => return Some(conflict),
-            None => {}
+    data_among(graph.cells(), regions, leads)
+}
+
+/// A data conflict at a fork, at the first of these cells that has one.
+fn data_among(cells: &[CellAccesses], regions: &ForkRegions, leads: &BitRow) -> Option<Conflict>
+    ensures { IsDataAtCells cells.now regions.now leads.now result }
+{
+    for cell in cells {
+        if let Some(conflict) = data_at_cell(cell, regions, leads) {
+            return Some(conflict);
         }
     }
     None
 }
 
-/// A data conflict at a fork, with that node in the child region.
-fn data_from(
-    graph: &DependenceGraph,
-    regions: &ForkRegions,
-    leads: &BitRow,
-    n: u32,
-) -> Option<Conflict>
-    requires node { n < length graph.now }
-    requires leads { length leads.now ≡ length graph.now }
-    ensures { IsDataFrom graph.now regions.now leads.now n result }
+/// A data conflict at a fork, at this cell.
+fn data_at_cell(cell: &CellAccesses, regions: &ForkRegions, leads: &BitRow) -> Option<Conflict>
+    ensures { IsDataAtCell cell.now regions.now leads.now result }
 {
-    let inside = Id::of(n);
-    if !leads.has(n) || !regions.in_child(inside) {
-        return None;
-    }
-    match clashing_node(graph, regions, leads, graph.accesses(inside)) {
-        Some(after) => Some(Conflict {
-            order: false,
-            fork: regions.fork,
-            inside,
-            after,
-        }),
-        None => None,
-    }
+    let (inside, after) = clash(regions, leads, cell.accessors.as_slice())?;
+    Some(Conflict {
+        order: false,
+        fork: regions.fork,
+        inside: inside.node,
+        after: after.node,
+    })
 }

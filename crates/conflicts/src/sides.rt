@@ -14,7 +14,7 @@ pub enum Side {
 }
 
 /// Whether the node may run on that side of the fork.
-fn is_on(regions: &ForkRegions, side: Side, node: NodeId) -> bool
+pub fn is_on(regions: &ForkRegions, side: Side, node: NodeId) -> bool
     ensures { result ≡ has_number (side_of regions.now side) node }
 {
     match side {

@@ -146,6 +146,11 @@ fn one_side_writes_what_the_other_accesses(rt: HostRuntime) -> Result<(), Fail> 
         with_accesses(alloc, (0, 1), &reads, &[], &[1, 4]),
         ("none", 0, 0)
     );
+    let second_cell = [(4, 8, true), (4, 7, false), (1, 7, true)];
+    assert_eq!(rt;
+        with_accesses(alloc, (0, 1), &second_cell, &[], &[1, 4]),
+        ("data", 4, 1)
+    );
     let apart = [(4, 7, true), (1, 8, true)];
     assert_eq!(rt;
         with_accesses(alloc, (0, 1), &apart, &[], &[1, 4]),

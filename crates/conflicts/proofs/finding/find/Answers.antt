@@ -1,7 +1,6 @@
-use Rattle.std.proofs.Common.{List, Option, Some, None, subst}
+use Rattle.std.proofs.Common.{List, Some, None, subst}
 use Rattle.thread_regions.specs.declared.tables.ForkRegions.{ForkRegions}
 use Rattle.conflicts.specs.Finding.{IsOrderAmong, IsDataAmong}
-use Rattle.conflicts.specs.declared.finding.Conflict.{Conflict}
 use Rattle.conflicts.proofs.FoundLemmas.{order_found, data_found}
 use Rattle.conflicts.proofs.finding.find.Goals as goal
 
