@@ -4,3 +4,4 @@ pub mod ProgramGraphs
 pub mod Queries
 pub mod ParentLemmas
 pub mod ResolutionLemmas
+pub mod MemberTables

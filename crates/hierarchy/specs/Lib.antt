@@ -1,4 +1,5 @@
 pub mod Orders
 pub mod Cycles
 pub mod Hierarchies
+pub mod OwnMembers
 pub mod Resolutions

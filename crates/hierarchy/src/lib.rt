@@ -10,6 +10,7 @@ ghost use Rattle.hierarchy.specs.Hierarchies.{HasItsParents, KeepsOrder, IsHiera
 mod cycles;
 mod methods;
 mod orders;
+mod own_members;
 mod parents;
 pub mod resolutions;
 mod types;
