@@ -5,3 +5,4 @@ pub mod Queries
 pub mod ParentLemmas
 pub mod ResolutionLemmas
 pub mod MemberTables
+pub mod NameTables

@@ -13,7 +13,7 @@ use Rattle.jo_prog.specs.Hierarchy.{first_field, is_field}
 use Rattle.jo_prog.specs.Walks.{first_found}
 use Rattle.hierarchy.specs.declared.own_members.Signature.{Signature}
 use Rattle.hierarchy.specs.declared.own_members.OwnMembers.{OwnMembers}
-use Rattle.hierarchy.specs.OwnMembers.{same_signature, member_by, AreMethodsOf, AreFieldsOf, AreMembersOf, AreTables, HasTables}
+use Rattle.hierarchy.specs.OwnMembers.{same_signature, member_by, AreMethodsOf, AreFieldsOf, AreTables, HasTables}
 
 -- ---- one member more, before the others
 
