@@ -4,3 +4,5 @@ pub mod ProgramGraphs
 pub mod Queries
 pub mod ParentLemmas
 pub mod ResolutionLemmas
+pub mod MemberTables
+pub mod NameTables

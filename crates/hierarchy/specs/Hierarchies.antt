@@ -10,6 +10,7 @@ use Rattle.hierarchy.specs.declared.Hierarchy.{Hierarchy}
 use Rattle.hierarchy.specs.declared.HierarchyFault.{HierarchyFault}
 use Rattle.hierarchy.specs.declared.HierarchyFault.TheVariants.{Cyclic, Memory}
 use Rattle.hierarchy.specs.Orders.{SameFirst, edges}
+use Rattle.hierarchy.specs.ClassNames.{AreNamesOf}
 
 -- each superclass and interface is a class of the program
 abbrev pub HasItsParents : Program → Type 0
@@ -25,6 +26,7 @@ pub record IsHierarchyOf (program : Program) (hierarchy : Hierarchy) : Type 0 wh
   pub supertypes_kept : KeepsOrder program hierarchy.supertypes.items (supertypes program)
   pub superclasses_kept : KeepsOrder program hierarchy.superclasses.items (superclasses program)
   pub methods_kept : KeepsOrder program hierarchy.methods.items (method_order program)
+  pub names_kept : AreNamesOf program.classes hierarchy.names
 
 -- the first class that is above itself, or no claim where memory is wanting
 abbrev pub IsFaultOf : Program → HierarchyFault → Type 0

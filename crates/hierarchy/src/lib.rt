@@ -7,13 +7,16 @@ ghost use Rattle.jo_prog.specs.Calls.{special, takes};
 ghost use Rattle.jo_prog.specs.Walks.{first_found};
 ghost use Rattle.hierarchy.specs.Hierarchies.{HasItsParents, KeepsOrder, IsHierarchyOf, IsFaultOf, superclass_list, interface_list, parent_list};
 
+mod class_names;
 mod cycles;
 mod methods;
 mod orders;
+mod own_members;
 mod parents;
 pub mod resolutions;
 mod types;
 
+use class_names::{ClassNames, class_names};
 use cycles::first_on_cycle;
 use jo_ids::{ClassId, FieldId, List, Memory, MethodId};
 use jo_prog::calls::{Taken, is_taken_as_resolved, superclass_at, taken_from};
@@ -30,12 +33,14 @@ const INVOKESPECIAL: u8 = 183;
 
 const INVOKESTATIC: u8 = 184;
 
-/// The classes above each class of a program, in the orders in which members are looked for, each class once.
+/// The classes above each class of a program, in the orders in which members are looked for, each class once, and the
+/// classes by their names.
 #[derive(Drop)]
 pub struct Hierarchy {
     supertypes: Vec<List<ClassId>>,
     superclasses: Vec<List<ClassId>>,
     methods: Vec<List<ClassId>>,
+    names: ClassNames,
 }
 
 /// Why a program has no hierarchy.
@@ -196,10 +201,12 @@ fn hierarchy_of(
         interfaces.as_slice(),
         superclasses.as_slice(),
     )?;
+    let names = class_names(alloc, classes)?;
     Ok(Hierarchy {
         supertypes,
         superclasses,
         methods,
+        names,
     })
 }
 

@@ -1,10 +1,14 @@
 //! The members that the operands of the classes resolve to, looked up once.
 ghost use Rattle.std.specs.Prelude.{◌≡◌, map, IfOk};
 ghost use Rattle.jo_prog.specs.Calls;
+ghost use Rattle.jo_prog.specs.Hierarchy.{resolve_method, resolve_field};
+ghost use Rattle.hierarchy.specs.OwnMembers.{HasTables};
 ghost use Rattle.hierarchy.specs.Hierarchies.{IsHierarchyOf};
 ghost use Rattle.hierarchy.specs.Resolutions.{is_of_method, resolved_operand, resolved_at, resolved_of_class, AreResolutionsOf};
 
 use crate::Hierarchy;
+use crate::orders::edges_at;
+use crate::own_members::{OwnMembers, Signature, first_field, first_method, own_members};
 use jo_ids::{ClassId, FieldId, Id, List, Memory, MethodId};
 use jo_prog::lists::add;
 use jo_prog::program::{Class, Operand, Program, TypeRef};
@@ -43,41 +47,82 @@ fn receiver_class(owner: &TypeRef) -> ClassId
     }
 }
 
-fn resolve_operand(program: &Program, hierarchy: &Hierarchy, operand: &Operand) -> Option<Member>
-    requires { IsHierarchyOf program.now hierarchy.now }
+fn resolve_method<'p>(
+    program: &Program,
+    hierarchy: &Hierarchy,
+    tables: &[OwnMembers<'p>],
+    class: ClassId,
+    signature: &Signature<'p>,
+) -> Option<MethodId>
+    requires kept { IsHierarchyOf program.now hierarchy.now }
+    requires tables { HasTables program.now tables.now }
+    ensures { result ≡ resolve_method program.now class signature.now.name.now signature.now.desc.now }
+{
+    let order = edges_at(hierarchy.methods.as_slice(), class.number());
+    first_method(tables, order, signature)
+}
+
+fn resolve_field<'p>(
+    program: &Program,
+    hierarchy: &Hierarchy,
+    tables: &[OwnMembers<'p>],
+    class: ClassId,
+    signature: &Signature<'p>,
+) -> Option<FieldId>
+    requires kept { IsHierarchyOf program.now hierarchy.now }
+    requires tables { HasTables program.now tables.now }
+    ensures { result ≡ resolve_field program.now class signature.now.name.now signature.now.desc.now }
+{
+    let order = edges_at(hierarchy.supertypes.as_slice(), class.number());
+    first_field(tables, order, signature)
+}
+
+fn resolve_operand<'p>(
+    program: &Program,
+    hierarchy: &Hierarchy,
+    tables: &[OwnMembers<'p>],
+    operand: &'p Operand,
+) -> Option<Member>
+    requires kept { IsHierarchyOf program.now hierarchy.now }
+    requires tables { HasTables program.now tables.now }
     ensures { result ≡ resolved_operand program.now operand.now }
 {
     let Operand::Member(member) = operand else {
         return None;
     };
-    let name = member.name.as_slice();
-    let desc = member.desc.as_slice();
-    if is_of_method(desc) {
+    let signature = Signature {
+        name: member.name.as_slice(),
+        desc: member.desc.as_slice(),
+    };
+    if is_of_method(signature.desc) {
         let owner = receiver_class(&member.owner);
-        return hierarchy
-            .resolve(program, owner, name, desc)
-            .map(Member::Method);
+        return resolve_method(program, hierarchy, tables, owner, &signature).map(Member::Method);
     }
     match &member.owner {
-        TypeRef::Class(owner) => hierarchy
-            .resolve_field(program, *owner, name, desc)
-            .map(Member::Field),
+        TypeRef::Class(owner) => resolve_field(program, hierarchy, tables, *owner, &signature).map(
+            Member::Field,
+        ),
         TypeRef::Array(_) => None,
     }
 }
 
-fn resolve_class(
+fn resolve_class<'p>(
     alloc: Global,
     program: &Program,
     hierarchy: &Hierarchy,
-    class: &Class,
+    tables: &[OwnMembers<'p>],
+    class: &'p Class,
 ) -> Result<List<Option<Member>>, Memory>
-    requires { IsHierarchyOf program.now hierarchy.now }
+    requires kept { IsHierarchyOf program.now hierarchy.now }
+    requires tables { HasTables program.now tables.now }
     ensures { IfOk result (λ members. members ≡ resolved_of_class program.now class.now) }
 {
     let mut members = List::new(alloc);
     for operand in class.operands.as_slice() {
-        add(&mut members, resolve_operand(program, hierarchy, operand))?;
+        add(
+            &mut members,
+            resolve_operand(program, hierarchy, tables, operand),
+        )?;
     }
     Ok(members)
 }
@@ -92,9 +137,11 @@ impl Resolutions {
         requires { IsHierarchyOf program.now hierarchy.now }
         ensures { IfOk result (λ resolutions. AreResolutionsOf program.now resolutions) }
     {
+        let own = own_members(alloc, program)?;
+        let tables = own.as_slice();
         let mut members = Vec::new(alloc);
         for class in program.classes.as_slice() {
-            members.push(resolve_class(alloc, program, hierarchy, class)?)?;
+            members.push(resolve_class(alloc, program, hierarchy, tables, class)?)?;
         }
         Ok(Resolutions { members })
     }

@@ -4,22 +4,10 @@ ghost use Rattle.jo_prog.specs.Types;
 ghost use Rattle.hierarchy.specs.Hierarchies.{IsHierarchyOf};
 
 use crate::Hierarchy;
-use jo_ids::{ClassId, Id};
+use crate::class_names::class_with;
+use jo_ids::ClassId;
 use jo_prog::program::{Program, TypeRef};
 use jo_text::{Base, FieldDesc};
-
-/// The first class with that name.
-fn class_named(program: &Program, name: &[u8]) -> Option<ClassId>
-    requires { length program.now.classes < 2 ^ 32 }
-    ensures { result ≡ Types.class_named program.now name.now }
-{
-    for (number, class) in program.classes.as_slice().iter().enumerate() {
-        if class.name.as_slice() == name {
-            return Some(Id::of(number as u32));
-        }
-    }
-    None
-}
 
 fn letter_of(base: &Base) -> u8
     ensures { result ≡ Types.letter_of base.now }
@@ -47,6 +35,14 @@ fn is_object(base: &Base) -> bool
 }
 
 impl Hierarchy {
+    /// The first class with that name.
+    fn class_named(&self, program: &Program, name: &[u8]) -> Option<ClassId>
+        requires { IsHierarchyOf program.now self.now }
+        ensures { result ≡ Types.class_named program.now name.now }
+    {
+        class_with(&self.names, name)
+    }
+
     fn is_subtype_of(&self, program: &Program, a: Option<ClassId>, b: Option<ClassId>) -> bool
         requires { IsHierarchyOf program.now self.now }
         ensures { result ≡ Types.is_subtype_of program.now a b }
@@ -65,8 +61,8 @@ impl Hierarchy {
     {
         match (a, b) {
             (Base::Class(a), Base::Class(b)) => {
-                let a = class_named(program, a.as_slice());
-                let b = class_named(program, b.as_slice());
+                let a = self.class_named(program, a.as_slice());
+                let b = self.class_named(program, b.as_slice());
                 self.is_subtype_of(program, a, b)
             }
             _ => letter_of(a) == letter_of(b),
