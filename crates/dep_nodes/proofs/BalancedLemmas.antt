@@ -3,8 +3,8 @@ use Rattle.std.proofs.Common.{◌≡◌, ◌≢◌, ◌↔◌, Bool, true, false
 use Rattle.std.proofs.lemmas.Option.{same_Some, none-some}
 use Rattle.dep_nodes.specs.declared.kinds.EdgeKind.{EdgeKind}
 use Rattle.dep_nodes.specs.declared.kinds.EdgeKind.TheVariants.{Data, Control, Out, Arg, Call, Ret, Heap, Fork}
-use Rattle.dep_nodes.specs.Nodes.{Node, CallSite, call_site}
-use Rattle.dep_nodes.specs.Chains.{same_site, opened, returned, adv, StaysWithin, MatchedOver, IsMatchedOver, arrived, onwards}
+use Rattle.dep_nodes.specs.Nodes.{Node, CallSite}
+use Rattle.dep_nodes.specs.Chains.{same_site, begun_call, ended_call, opened, returned, adv, StaysWithin, MatchedOver, IsMatchedOver, arrived, onwards}
 use Rattle.dep_nodes.specs.BalancedPaths.{stays_level, begins_call, Balanced, nothing, level, over, both}
 use Rattle.dep_nodes.proofs.ChainLemmas.{path_then}
 use Rattle.dep_nodes.proofs.Sites.{sites_equal, site_itself}
@@ -23,7 +23,7 @@ when_true false calls same = absurd (no_both (sym same))
 module _ {N : Type 0} (name : N → Node) (E : N → EdgeKind → N → Type 0) where
   -- ---- balanced paths are matched
 
-  begin_first : (call : CallSite) (kind : EdgeKind) (a b c : N) → begins_call kind ≡ true → E a kind b → call_site (name a) ≡ Some call → MatchedOver name E (call ∷ []) b c → IsMatchedOver name E a c
+  begin_first : (call : CallSite) (kind : EdgeKind) (a b c : N) → begins_call kind ≡ true → E a kind b → begun_call (name a) ≡ Some call → MatchedOver name E (call ∷ []) b c → IsMatchedOver name E a c
   begin_first call Arg a b c word edge site rest = onwards [] (call ∷ []) Arg a b c edge tt (ap (opened []) site) rest
   begin_first call Call a b c word edge site rest = onwards [] (call ∷ []) Call a b c edge tt (ap (opened []) site) rest
   begin_first call Data a b c word edge site rest = absurd (cc)
@@ -33,7 +33,7 @@ module _ {N : Type 0} (name : N → Node) (E : N → EdgeKind → N → Type 0) 
   begin_first call Heap a b c word edge site rest = absurd (cc)
   begin_first call Fork a b c word edge site rest = absurd (cc)
 
-  return_last : (call : CallSite) (a b : N) → E a Ret b → call_site (name b) ≡ Some call → MatchedOver name E (call ∷ []) a b
+  return_last : (call : CallSite) (a b : N) → E a Ret b → ended_call (name b) ≡ Some call → MatchedOver name E (call ∷ []) a b
   return_last call a b edge site = onwards (call ∷ []) [] Ret a b b edge (λ e. subst IsSome_call e tt) (ap (returned (call ∷ [])) site ∙ when_true (same_site call call) [] (site_itself call)) (arrived b)
 
   level_step : (kind : EdgeKind) (a b : N) → stays_level kind ≡ true → E a kind b → IsMatchedOver name E a b
@@ -58,7 +58,7 @@ module _ {N : Type 0} (name : N → Node) (E : N → EdgeKind → N → Type 0) 
   -- a balanced path to where the last call is returned from, and so on to the end
   abbrev Unwinds : List CallSite → N → N → Type 0
   Unwinds [] a z = Balanced name E a z
-  Unwinds (call ∷ calls) a z = (out : N) × (to : N) × Balanced name E a out × E out Ret to × (call_site (name to) ≡ Some call) × Unwinds calls to z
+  Unwinds (call ∷ calls) a z = (out : N) × (to : N) × Balanced name E a out × E out Ret to × (ended_call (name to) ≡ Some call) × Unwinds calls to z
 
   unwinds_behind : (calls : List CallSite) (a b z : N) → Balanced name E a b → Unwinds calls b z → Unwinds calls a z
   unwinds_behind [] a b z first path = both a b z first path
@@ -67,19 +67,19 @@ module _ {N : Type 0} (name : N → Node) (E : N → EdgeKind → N → Type 0) 
   on_level : (kind : EdgeKind) (calls next : List CallSite) (a b z : N) → stays_level kind ≡ true → E a kind b → Some calls ≡ Some next → Unwinds next b z → Unwinds calls a z
   on_level kind calls next a b z word edge same rest = unwinds_behind calls a b z (level kind a b word edge) (subst (λ xs. Unwinds xs b z) (sym (same_Some calls next same)) rest)
 
-  over_call : (kind : EdgeKind) (call : CallSite) (calls : List CallSite) (a b z : N) → begins_call kind ≡ true → E a kind b → call_site (name a) ≡ Some call → Unwinds (call ∷ calls) b z → Unwinds calls a z
+  over_call : (kind : EdgeKind) (call : CallSite) (calls : List CallSite) (a b z : N) → begins_call kind ≡ true → E a kind b → begun_call (name a) ≡ Some call → Unwinds (call ∷ calls) b z → Unwinds calls a z
   over_call kind call calls a b z word edge site (out, to, path, return, back, rest) = unwinds_behind calls a to z (over kind call a b out to word edge site path return back) rest
 
-  into_call : (o : Option CallSite) (kind : EdgeKind) (calls next : List CallSite) (a b z : N) → call_site (name a) ≡ o → begins_call kind ≡ true → E a kind b → opened calls o ≡ Some next → Unwinds next b z → Unwinds calls a z
+  into_call : (o : Option CallSite) (kind : EdgeKind) (calls next : List CallSite) (a b z : N) → begun_call (name a) ≡ o → begins_call kind ≡ true → E a kind b → opened calls o ≡ Some next → Unwinds next b z → Unwinds calls a z
   into_call None kind calls next a b z site word edge opens rest = absurd (none-some next opens)
   into_call (Some call) kind calls next a b z site word edge opens rest = over_call kind call calls a b z word edge site (subst (λ xs. Unwinds xs b z) (sym (same_Some (call ∷ calls) next opens)) rest)
 
-  last_closed : (same : Bool) (call back : CallSite) (calls next : List CallSite) (a b z : N) → same_site call back ≡ same → E a Ret b → call_site (name b) ≡ Some back → (if same then Some calls else None) ≡ Some next → Unwinds next b z → Unwinds (call ∷ calls) a z
+  last_closed : (same : Bool) (call back : CallSite) (calls next : List CallSite) (a b z : N) → same_site call back ≡ same → E a Ret b → ended_call (name b) ≡ Some back → (if same then Some calls else None) ≡ Some next → Unwinds next b z → Unwinds (call ∷ calls) a z
   last_closed true call back calls next a b z same edge site closes rest =
       (a, b, nothing a, edge, site ∙ ap (λ s. Some s) (sym (sites_equal call back same)), subst (λ xs. Unwinds xs b z) (sym (same_Some calls next closes)) rest)
   last_closed false call back calls next a b z same edge site closes rest = absurd (none-some next closes)
 
-  out_of_call : (o : Option CallSite) (calls next : List CallSite) (a b z : N) → call_site (name b) ≡ o → E a Ret b → calls ≢ [] → returned calls o ≡ Some next → Unwinds next b z → Unwinds calls a z
+  out_of_call : (o : Option CallSite) (calls next : List CallSite) (a b z : N) → ended_call (name b) ≡ o → E a Ret b → calls ≢ [] → returned calls o ≡ Some next → Unwinds next b z → Unwinds calls a z
   out_of_call None calls next a b z site edge some closes rest = absurd (none-some next closes)
   out_of_call (Some back) [] next a b z site edge some closes rest = absurd (some refl)
   out_of_call (Some back) (call ∷ calls) next a b z site edge some closes rest = last_closed (same_site call back) call back calls next a b z refl edge site closes rest
@@ -88,9 +88,9 @@ module _ {N : Type 0} (name : N → Node) (E : N → EdgeKind → N → Type 0) 
   unwind_step Data calls next a b z edge within opens rest = on_level Data calls next a b z refl edge opens rest
   unwind_step Control calls next a b z edge within opens rest = on_level Control calls next a b z refl edge opens rest
   unwind_step Out calls next a b z edge within opens rest = on_level Out calls next a b z refl edge opens rest
-  unwind_step Arg calls next a b z edge within opens rest = into_call (call_site (name a)) Arg calls next a b z refl refl edge opens rest
-  unwind_step Call calls next a b z edge within opens rest = into_call (call_site (name a)) Call calls next a b z refl refl edge opens rest
-  unwind_step Ret calls next a b z edge within opens rest = out_of_call (call_site (name b)) calls next a b z refl edge within opens rest
+  unwind_step Arg calls next a b z edge within opens rest = into_call (begun_call (name a)) Arg calls next a b z refl refl edge opens rest
+  unwind_step Call calls next a b z edge within opens rest = into_call (begun_call (name a)) Call calls next a b z refl refl edge opens rest
+  unwind_step Ret calls next a b z edge within opens rest = out_of_call (ended_call (name b)) calls next a b z refl edge within opens rest
   unwind_step Heap calls next a b z edge within opens rest = absurd within
   unwind_step Fork calls next a b z edge within opens rest = absurd within
 

@@ -1,5 +1,6 @@
 pub mod CellLemmas
 pub mod BalancedLemmas
+pub mod CallEnds
 pub mod ChainLemmas
 pub mod GrowingLemmas
 pub mod ListedLemmas

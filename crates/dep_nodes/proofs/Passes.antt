@@ -6,8 +6,8 @@ use Rattle.dep_nodes.specs.declared.kinds.EdgeKind.{EdgeKind}
 use Rattle.dep_nodes.specs.declared.kinds.EdgeKind.TheVariants.{Data, Control, Out, Arg, Call, Ret, Heap, Fork}
 use Rattle.dep_nodes.specs.declared.chains.Word.{Word}
 use Rattle.dep_nodes.specs.declared.chains.Word.TheVariants.{Edge, Pass}
-use Rattle.dep_nodes.specs.Nodes.{Node, CallSite, call_site}
-use Rattle.dep_nodes.specs.Chains.{same_site, opened, closed, returned, adv, StaysWithin, MatchedOver, arrived, onwards, StepsOnOver, LinkTo, IsChainOver, end_of, IsEdge, HasChainOver, HasEdgeChainOver}
+use Rattle.dep_nodes.specs.Nodes.{Node, CallSite}
+use Rattle.dep_nodes.specs.Chains.{same_site, begun_call, ended_call, opened, closed, returned, adv, StaysWithin, MatchedOver, arrived, onwards, StepsOnOver, LinkTo, IsChainOver, end_of, IsEdge, HasChainOver, HasEdgeChainOver}
 
 -- ---- open calls below
 
@@ -35,9 +35,9 @@ pub adv_under : (calls next under : List CallSite) (a b : Node) (kind : EdgeKind
 adv_under calls next under a b Data stays e = kept_under calls next under e
 adv_under calls next under a b Control stays e = kept_under calls next under e
 adv_under calls next under a b Out stays e = kept_under calls next under e
-adv_under calls next under a b Arg stays e = opened_under calls next under (call_site a) e
-adv_under calls next under a b Call stays e = opened_under calls next under (call_site a) e
-adv_under calls next under a b Ret stays e = returned_under calls next under (call_site b) stays e
+adv_under calls next under a b Arg stays e = opened_under calls next under (begun_call a) e
+adv_under calls next under a b Call stays e = opened_under calls next under (begun_call a) e
+adv_under calls next under a b Ret stays e = returned_under calls next under (ended_call b) stays e
 adv_under calls next under a b Heap stays e = absurd stays
 adv_under calls next under a b Fork stays e = absurd stays
 

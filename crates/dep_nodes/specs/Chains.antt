@@ -16,6 +16,28 @@ use Rattle.dep_nodes.specs.Nodes.{Node, CallSite, call_site}
 abbrev pub same_site : CallSite → CallSite → Bool
 same_site a b = (a.caller.method == b.caller.method) && (bytes_eq a.caller.context b.caller.context && (a.pc == b.pc))
 
+-- ---- the ends of calls
+
+-- where values go into a call, and how it comes out of one
+abbrev pub goes_in : NodeKind → Bool
+goes_in (ArgNode pc i) = true
+goes_in (CallNode pc) = true
+goes_in _ = false
+
+abbrev pub comes_out : NodeKind → Bool
+comes_out (RetVal pc) = true
+comes_out (RetKind pc) = true
+comes_out (Throw pc) = true
+comes_out _ = false
+
+-- the call that begins at a node, where values go in there
+abbrev pub begun_call : Node → Option CallSite
+begun_call n = if goes_in n.kind then call_site n else None
+
+-- the call that ends at a node, where it comes out there
+abbrev pub ended_call : Node → Option CallSite
+ended_call n = if comes_out n.kind then call_site n else None
+
 -- ---- the automaton
 
 -- the open calls behind the begin of a call
@@ -32,15 +54,15 @@ abbrev pub returned : List CallSite → Option CallSite → Option (List CallSit
 returned calls None = None
 returned calls (Some call) = closed calls call
 
--- The open calls behind an edge, where it may stand there. The call of an `arg` or `call` edge is where it begins, that of
--- a `ret` edge where it ends; an end without a pc is none.
+-- The open calls behind an edge, where it may stand there. The call of an `arg` or `call` edge is where it begins, at an Arg
+-- or a Call; that of a `ret` edge is where it ends, at a RetVal, RetKind or Throw. Any other end is none.
 abbrev pub adv : List CallSite → Node → EdgeKind → Node → Option (List CallSite)
 adv calls from Data to = Some calls
 adv calls from Control to = Some calls
 adv calls from Out to = Some calls
-adv calls from Arg to = opened calls (call_site from)
-adv calls from Call to = opened calls (call_site from)
-adv calls from Ret to = returned calls (call_site to)
+adv calls from Arg to = opened calls (begun_call from)
+adv calls from Call to = opened calls (begun_call from)
+adv calls from Ret to = returned calls (ended_call to)
 adv calls from Heap to = Some []
 adv calls from Fork to = Some []
 
@@ -73,18 +95,6 @@ abbrev pub IsMatchedOver : {N : Type 0} → (N → Node) → (N → EdgeKind →
 IsMatchedOver name E a b = MatchedOver name E [] a b
 
 -- ---- chains
-
--- where values go into a call, and how it comes out of one
-abbrev pub goes_in : NodeKind → Bool
-goes_in (ArgNode pc i) = true
-goes_in (CallNode pc) = true
-goes_in _ = false
-
-abbrev pub comes_out : NodeKind → Bool
-comes_out (RetVal pc) = true
-comes_out (RetKind pc) = true
-comes_out (Throw pc) = true
-comes_out _ = false
 
 -- a `pass` step stands for a matched path from where a call goes in to where the same call comes out
 pub record IsPassOver {N : Type 0} (name : N → Node) (E : N → EdgeKind → N → Type 0) (from to : N) : Type 0 where

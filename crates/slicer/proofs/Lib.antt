@@ -1,4 +1,4 @@
+pub mod EndLemmas
 pub mod FindLemmas
-pub mod FitLemmas
 pub mod PhaseLemmas
 pub mod SearchLemmas

@@ -1,18 +1,19 @@
 -- Steps back from place to place are steps of valid chains, and those that reach all that valid chains reach.
 use Rattle.std.proofs.Common.{◌≡◌, ◌≢◌, ℕ, true, false, Bool, List, [], ◌∷◌, ◌++◌, Option, Some, None, if◌then◌else◌, refl, sym, ◌∙◌, ap, subst, inl, inr, ◌⊎◌}
-use Rattle.std.specs.Prelude.{is_some, option_map}
 use Rattle.std.proofs.lemmas.Option.{same_Some, none-some}
 use Rattle.dep_nodes.specs.declared.kinds.EdgeKind.{EdgeKind}
 use Rattle.dep_nodes.specs.declared.kinds.EdgeKind.TheVariants.{Data, Control, Out, Arg, Call, Ret, Heap, Fork}
 use Rattle.dep_nodes.specs.declared.chains.Word.{Word}
 use Rattle.dep_nodes.specs.declared.chains.Word.TheVariants.{Edge, Pass}
-use Rattle.dep_nodes.specs.Nodes.{Node, CallSite, call_site, pc_of}
-use Rattle.dep_nodes.specs.Chains.{same_site, opened, closed, returned, adv, goes_in, StaysWithin, MatchedOver, arrived, onwards, IsPassOver, StepsOnOver, LinkTo, IsChainOver, LeavesOpenOver, HasChainOver, end_of}
+use Rattle.dep_nodes.specs.Nodes.{Node, CallSite}
+use Rattle.dep_nodes.specs.Chains.{same_site, opened, closed, returned, adv, goes_in, comes_out, begun_call, ended_call, StaysWithin, MatchedOver, arrived, onwards, IsPassOver, StepsOnOver, LinkTo, IsChainOver, LeavesOpenOver, HasChainOver, end_of}
+use Rattle.dep_nodes.proofs.CallEnds.{begun_parts, ended_parts}
 use Rattle.dep_nodes.proofs.ChainLemmas.{path_then}
 use Rattle.dep_nodes.proofs.Sites.{sites_equal, site_itself}
 use Rattle.slicer.specs.declared.finds.Phase.{Phase}
 use Rattle.slicer.specs.declared.finds.Phase.TheVariants.{First, Second}
-use Rattle.slicer.specs.Phases.{has_pc, before_call, before_return, phase_before, LeadsOver, MayBeOpen, FitsCall}
+use Rattle.slicer.proofs.EndLemmas.{begun_at, ended_at}
+use Rattle.slicer.specs.Phases.{before_call, before_return, phase_before, LeadsOver, MayBeOpen}
 
 -- ---- the calls of edges
 
@@ -46,31 +47,36 @@ closes_last last call calls next false is e = absurd (none-some next e)
 closes_again : (last call : CallSite) (calls : List CallSite) (o : Option CallSite) → o ≡ Some call → same_site last call ≡ true → returned (last ∷ calls) o ≡ Some calls
 closes_again last call calls o is same = ap (returned (last ∷ calls)) is ∙ ap (λ (b : Bool). if b then Some calls else None) same
 
-record FromCall (o : Option CallSite) (phase before : Phase) : Type 0 where
+record FromCall (n : Node) (phase : Phase) : Type 0 where
   call : CallSite
-  is : o ≡ Some call
+  is : begun_call n ≡ Some call
   at_end : phase ≡ First
 
-from_call : (o : Option ℕ) (site : ℕ → CallSite) (phase before : Phase) → before_call (is_some o) phase ≡ Some before → FromCall (option_map site o) phase before
-from_call None site phase before e = absurd (none-some before e)
-from_call (Some pc) site First before e = record { call = site pc; is = refl; at_end = refl }
-from_call (Some pc) site Second before e = absurd (none-some before e)
+goes_at : (b : Bool) (phase before : Phase) → before_call b phase ≡ Some before → (b ≡ true) × (phase ≡ First)
+goes_at false phase before e = absurd (none-some before e)
+goes_at true First before e = (refl, refl)
+goes_at true Second before e = absurd (none-some before e)
 
-record FromReturn (o : Option CallSite) (before : Phase) : Type 0 where
+from_call : (n : Node) (phase before : Phase) → before_call (goes_in n.kind) phase ≡ Some before → FromCall n phase
+from_call n phase before e =
+    let at = goes_at (goes_in n.kind) phase before e in
+    let begun = begun_at n.inst n.kind at.0 in
+    record { call = begun.0; is = begun.1; at_end = at.1 }
+
+record FromReturn (n : Node) (before : Phase) : Type 0 where
   call : CallSite
-  is : o ≡ Some call
+  is : ended_call n ≡ Some call
   at_begin : before ≡ Second
 
-from_return : (o : Option ℕ) (site : ℕ → CallSite) (before : Phase) → before_return (is_some o) ≡ Some before → FromReturn (option_map site o) before
-from_return None site before e = absurd (none-some before e)
-from_return (Some pc) site before e = record { call = site pc; is = refl; at_begin = sym (same_Some Second before e) }
+comes_at : (b : Bool) (before : Phase) → before_return b ≡ Some before → (b ≡ true) × (before ≡ Second)
+comes_at false before e = absurd (none-some before e)
+comes_at true before e = (refl, sym (same_Some Second before e))
 
-abbrev site_at : Node → ℕ → CallSite
-site_at n pc = record { caller = n.inst; pc = pc }
-
-pc_there : (o : Option ℕ) (site : ℕ → CallSite) (call : CallSite) → option_map site o ≡ Some call → is_some o ≡ true
-pc_there None site call e = absurd (none-some call e)
-pc_there (Some pc) site call e = refl
+from_return : (n : Node) (before : Phase) → before_return (comes_out n.kind) ≡ Some before → FromReturn n before
+from_return n before e =
+    let at = comes_at (comes_out n.kind) before e in
+    let ended = ended_at n.inst n.kind at.0 in
+    record { call = ended.0; is = ended.1; at_begin = at.1 }
 
 pub none_open : (phase : Phase) → MayBeOpen phase []
 none_open First = tt
@@ -105,15 +111,15 @@ module _ {N : Type 0} (name : N → Node) (E : N → EdgeKind → N → Type 0) 
   edge_sound calls Control a b before phase along e may = (calls, (along, refl), subst (λ p. MayBeOpen p calls) (sym (same_Some phase before e)) may)
   edge_sound calls Out a b before phase along e may = (calls, (along, refl), subst (λ p. MayBeOpen p calls) (sym (same_Some phase before e)) may)
   edge_sound calls Arg a b before phase along e may =
-      let from = from_call (pc_of (name a).kind) (site_at (name a)) phase before e in
+      let from = from_call (name a) phase before e in
       (from.call ∷ calls, (along, ap (opened calls) from.is), open_in_first phase (from.call ∷ calls) from.at_end)
   edge_sound calls Call a b before phase along e may =
-      let from = from_call (pc_of (name a).kind) (site_at (name a)) phase before e in
+      let from = from_call (name a) phase before e in
       (from.call ∷ calls, (along, ap (opened calls) from.is), open_in_first phase (from.call ∷ calls) from.at_end)
   edge_sound calls Ret a b before phase along e may =
-      let from = from_return (pc_of (name b).kind) (site_at (name b)) before e in
+      let from = from_return (name b) before e in
       let none : calls ≡ [] = subst (λ p. MayBeOpen p calls) from.at_begin may in
-      ([], (along, ap (λ cs. returned cs (call_site (name b))) none ∙ ap (returned []) from.is), none_open phase)
+      ([], (along, ap (λ cs. returned cs (ended_call (name b))) none ∙ ap (returned []) from.is), none_open phase)
   edge_sound calls Heap a b before phase along e may = ([], (along, refl), none_open phase)
   edge_sound calls Fork a b before phase along e may = ([], (along, refl), none_open phase)
 
@@ -134,9 +140,8 @@ module _ {N : Type 0} (name : N → Node) (E : N → EdgeKind → N → Type 0) 
 
   -- ---- each chain is found
 
-  -- a set of places that has with each place those which lead to it, where edges fit the ends of calls
-  module _ (R : N → Phase → Type 0) (back : (a b : N) (before phase : Phase) (word : Word) → LeadsOver name E a before word b phase → R b phase → R a before)
-      (fits : (a b : N) (kind : EdgeKind) → E a kind b → FitsCall kind (name a) (name b)) where
+  -- a set of places that has with each place those which lead to it
+  module _ (R : N → Phase → Type 0) (back : (a b : N) (before phase : Phase) (word : Word) → LeadsOver name E a before word b phase → R b phase → R a before) where
     abbrev Level : N → N → Type 0
     Level a b = (phase : Phase) → R b phase → R a phase
 
@@ -144,7 +149,7 @@ module _ {N : Type 0} (name : N → Node) (E : N → EdgeKind → N → Type 0) 
     abbrev Unwinds : List CallSite → N → N → Type 0
     Unwinds [] a c = Level a c
     Unwinds (call ∷ calls) a c =
-        (out : N) × (to : N) × MatchedOver name E [] a out × Level a out × E out Ret to × (call_site (name to) ≡ Some call) × Unwinds calls to c
+        (out : N) × (to : N) × MatchedOver name E [] a out × Level a out × E out Ret to × (ended_call (name to) ≡ Some call) × Unwinds calls to c
 
     join : (calls : List CallSite) (a b c : N) → MatchedOver name E [] a b → Level a b → Unwinds calls b c → Unwinds calls a c
     join [] a b c path level rest = λ phase r. level phase (rest phase r)
@@ -158,21 +163,23 @@ module _ {N : Type 0} (name : N → Node) (E : N → EdgeKind → N → Type 0) 
         (subst (λ cs. Unwinds cs b c) (sym (same_Some calls next e)) rest)
 
     -- a call that call_begun, and is passed by
-    by_pass : (calls next : List CallSite) (kind : EdgeKind) (a b c : N) → E a kind b → ((cs : List CallSite) → StaysWithin cs kind) → ((cs : List CallSite) → adv cs (name a) kind (name b) ≡ opened cs (call_site (name a)))
-        → goes_in (name a).kind ≡ true → Begins calls next (call_site (name a)) → Unwinds next b c → Unwinds calls a c
-    by_pass calls next kind a b c along stays opens in_call begun rest = through (subst (λ cs. Unwinds cs b c) (sym begun.opens) rest)
+    by_pass : (calls next : List CallSite) (kind : EdgeKind) (a b c : N) → E a kind b → ((cs : List CallSite) → StaysWithin cs kind) → ((cs : List CallSite) → adv cs (name a) kind (name b) ≡ opened cs (begun_call (name a)))
+        → Begins calls next (begun_call (name a)) → Unwinds next b c → Unwinds calls a c
+    by_pass calls next kind a b c along stays opens begun rest = through (subst (λ cs. Unwinds cs b c) (sym begun.opens) rest)
       where
         through : Unwinds (begun.call ∷ calls) b c → Unwinds calls a c
         through (out, to, inner, goes, ret, site, more) =
             let back_again : MatchedOver name E (begun.call ∷ []) out to =
-            onwards (begun.call ∷ []) [] Ret out to to ret (not_empty begun.call []) (closes_again begun.call begun.call [] (call_site (name to)) site (site_itself begun.call)) (arrived to) in
+            onwards (begun.call ∷ []) [] Ret out to to ret (not_empty begun.call []) (closes_again begun.call begun.call [] (ended_call (name to)) site (site_itself begun.call)) (arrived to) in
             let path : MatchedOver name E [] a to =
             onwards [] (begun.call ∷ []) kind a b to along (stays []) (opens [] ∙ ap (opened []) begun.is) (path_then name E [] (begun.call ∷ []) b out to inner back_again) in
-            let pass : IsPassOver name E a to = record { begin = in_call; end = fits out to Ret ret; same_call = begun.is ∙ sym site; path = path } in
+            let into = begun_parts (name a) begun.call begun.is in
+            let back_out = ended_parts (name to) begun.call site in
+            let pass : IsPassOver name E a to = record { begin = into.0; end = back_out.0; same_call = into.1 ∙ sym back_out.1; path = path } in
             join calls a to c path (λ phase r. back a to phase phase Pass (pass, refl) r) more
 
     -- a call that is returned to
-    goes_out : (calls next : List CallSite) (a b c : N) → E a Ret b → calls ≢ [] → Returns calls next (call_site (name b)) → Unwinds next b c → Unwinds calls a c
+    goes_out : (calls next : List CallSite) (a b c : N) → E a Ret b → calls ≢ [] → Returns calls next (ended_call (name b)) → Unwinds next b c → Unwinds calls a c
     goes_out [] next a b c along some back_to rest = absurd (some refl)
     goes_out (last ∷ calls) next a b c along some back_to rest =
         let end = closes_last last back_to.call calls next (same_site last back_to.call) refl back_to.closes in
@@ -182,9 +189,9 @@ module _ {N : Type 0} (name : N → Node) (E : N → EdgeKind → N → Type 0) 
     unwound_more calls next Data a b c along stays e rest = within calls next Data a b c along (λ cs. tt) (λ cs. refl) (λ phase. refl) e rest
     unwound_more calls next Control a b c along stays e rest = within calls next Control a b c along (λ cs. tt) (λ cs. refl) (λ phase. refl) e rest
     unwound_more calls next Out a b c along stays e rest = within calls next Out a b c along (λ cs. tt) (λ cs. refl) (λ phase. refl) e rest
-    unwound_more calls next Arg a b c along stays e rest = by_pass calls next Arg a b c along (λ cs. tt) (λ cs. refl) (fits a b Arg along) (call_begun calls next (call_site (name a)) e) rest
-    unwound_more calls next Call a b c along stays e rest = by_pass calls next Call a b c along (λ cs. tt) (λ cs. refl) (fits a b Call along) (call_begun calls next (call_site (name a)) e) rest
-    unwound_more calls next Ret a b c along stays e rest = goes_out calls next a b c along stays (call_returned calls next (call_site (name b)) e) rest
+    unwound_more calls next Arg a b c along stays e rest = by_pass calls next Arg a b c along (λ cs. tt) (λ cs. refl) (call_begun calls next (begun_call (name a)) e) rest
+    unwound_more calls next Call a b c along stays e rest = by_pass calls next Call a b c along (λ cs. tt) (λ cs. refl) (call_begun calls next (begun_call (name a)) e) rest
+    unwound_more calls next Ret a b c along stays e rest = goes_out calls next a b c along stays (call_returned calls next (ended_call (name b)) e) rest
     unwound_more calls next Heap a b c along stays e rest = absurd stays
     unwound_more calls next Fork a b c along stays e rest = absurd stays
 
@@ -220,8 +227,8 @@ module _ {N : Type 0} (name : N → Node) (E : N → EdgeKind → N → Type 0) 
         (done.0, done.1, done.2, same_Some calls next e ∙ done.3, onwards done.0 done.0 kind a b done.2 along (stays done.0) (keeps done.0) done.4, done.5)
 
     -- a call that call_begun is closed by the front, or is never closed
-    enters : (calls next : List CallSite) (kind : EdgeKind) (a b : N) → E a kind b → ((cs : List CallSite) → StaysWithin cs kind) → ((cs : List CallSite) → adv cs (name a) kind (name b) ≡ opened cs (call_site (name a)))
-        → Begins calls next (call_site (name a)) → (R b First → R a First) → Completes next b → Completes calls a
+    enters : (calls next : List CallSite) (kind : EdgeKind) (a b : N) → E a kind b → ((cs : List CallSite) → StaysWithin cs kind) → ((cs : List CallSite) → adv cs (name a) kind (name b) ≡ opened cs (begun_call (name a)))
+        → Begins calls next (begun_call (name a)) → (R b First → R a First) → Completes next b → Completes calls a
     enters calls next kind a b along stays opens begun first done = by_front done.0 done.1 done.2 (begun.opens ∙ done.3) done.4 done.5
       where
         by_front : (front left : List CallSite) (c : N) → begun.call ∷ calls ≡ front ++ left → MatchedOver name E front b c → Good left c → Completes calls a
@@ -233,17 +240,17 @@ module _ {N : Type 0} (name : N → Node) (E : N → EdgeKind → N → Type 0) 
             (front, left, c, others, onwards front (call ∷ front) kind a b c along (stays front) (opens front ∙ ap (opened front) begun.is ∙ ap (λ x. Some (x ∷ front)) same) path, good)
 
     -- a return closes the last call, or goes on to a caller where none is open
-    leaves : (calls next : List CallSite) (a b : N) → E a Ret b → Returns calls next (call_site (name b)) → Completes next b → Completes calls a
+    leaves : (calls next : List CallSite) (a b : N) → E a Ret b → Returns calls next (ended_call (name b)) → Completes next b → Completes calls a
     leaves [] next a b along back_to done =
         let found = found_here next b (sym (same_Some [] next back_to.closes)) done in
-        ([], [], a, refl, arrived a, inr (refl, back a b Second found.0 (Edge Ret) (along, ap before_return (pc_there (pc_of (name b).kind) (site_at (name b)) back_to.call back_to.is)) found.1))
+        ([], [], a, refl, arrived a, inr (refl, back a b Second found.0 (Edge Ret) (along, ap before_return (ended_parts (name b) back_to.call back_to.is).0) found.1))
     leaves (last ∷ calls) next a b along back_to done =
         let end = closes_last last back_to.call calls next (same_site last back_to.call) refl back_to.closes in (
           last ∷ done.0,
           done.1,
           done.2,
           ap (λ cs. last ∷ cs) (end.left ∙ done.3),
-          onwards (last ∷ done.0) done.0 Ret a b done.2 along (not_empty last done.0) (closes_again last back_to.call done.0 (call_site (name b)) back_to.is end.same) done.4,
+          onwards (last ∷ done.0) done.0 Ret a b done.2 along (not_empty last done.0) (closes_again last back_to.call done.0 (ended_call (name b)) back_to.is end.same) done.4,
           done.5,
         )
 
@@ -252,21 +259,21 @@ module _ {N : Type 0} (name : N → Node) (E : N → EdgeKind → N → Type 0) 
         let found = found_here next b (sym (same_Some [] next e)) done in
         here_in_first calls a (back a b First found.0 (Edge kind) (along, phases found.0) found.1)
 
-    into_call : (kind : EdgeKind) (a b : N) → E a kind b → (calls next : List CallSite) → Begins calls next (call_site (name a)) → phase_before kind (name a) (name b) First ≡ before_call (has_pc (name a).kind) First → R b First → R a First
+    into_call : (kind : EdgeKind) (a b : N) → E a kind b → (calls next : List CallSite) → Begins calls next (begun_call (name a)) → phase_before kind (name a) (name b) First ≡ before_call (goes_in (name a).kind) First → R b First → R a First
     into_call kind a b along calls next begun is r =
-        back a b First First (Edge kind) (along, is ∙ ap (λ has. before_call has First) (pc_there (pc_of (name a).kind) (site_at (name a)) begun.call begun.is)) r
+        back a b First First (Edge kind) (along, is ∙ ap (λ has. before_call has First) (begun_parts (name a) begun.call begun.is).0) r
 
     completed_edge : (calls next : List CallSite) (kind : EdgeKind) (a b : N) → E a kind b → adv calls (name a) kind (name b) ≡ Some next → Completes next b → Completes calls a
     completed_edge calls next Data a b along e done = goes_on calls next Data a b along (λ cs. tt) (λ cs. refl) e done
     completed_edge calls next Control a b along e done = goes_on calls next Control a b along (λ cs. tt) (λ cs. refl) e done
     completed_edge calls next Out a b along e done = goes_on calls next Out a b along (λ cs. tt) (λ cs. refl) e done
     completed_edge calls next Arg a b along e done =
-        let begun = call_begun calls next (call_site (name a)) e in
+        let begun = call_begun calls next (begun_call (name a)) e in
         enters calls next Arg a b along (λ cs. tt) (λ cs. refl) begun (into_call Arg a b along calls next begun refl) done
     completed_edge calls next Call a b along e done =
-        let begun = call_begun calls next (call_site (name a)) e in
+        let begun = call_begun calls next (begun_call (name a)) e in
         enters calls next Call a b along (λ cs. tt) (λ cs. refl) begun (into_call Call a b along calls next begun refl) done
-    completed_edge calls next Ret a b along e done = leaves calls next a b along (call_returned calls next (call_site (name b)) e) done
+    completed_edge calls next Ret a b along e done = leaves calls next a b along (call_returned calls next (ended_call (name b)) e) done
     completed_edge calls next Heap a b along e done = forgets calls next Heap a b along (λ phase. refl) e done
     completed_edge calls next Fork a b along e done = forgets calls next Fork a b along (λ phase. refl) e done
 

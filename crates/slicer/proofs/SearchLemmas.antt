@@ -24,7 +24,7 @@ use Rattle.slicer.specs.declared.finds.Way.TheVariants.{Criterion, Step as AStep
 use Rattle.slicer.specs.declared.finds.Found.{Found}
 use Rattle.slicer.specs.Finds.{place, places_of, HasPlace, HasNode, AddsFound}
 use Rattle.slicer.specs.Phases.{phase_before, MayBeOpen}
-use Rattle.slicer.specs.Slices.{Leads, CallsFit, criterion, IsCriterion, GoesOn, IsSearch, IsClosed, BeginsWith, Appends, IsStepTo, IsPassTo, IsStep, IsPhaseBefore, HasChainToOneOf, link_of_step, step_links, AreStepsToCriterion}
+use Rattle.slicer.specs.Slices.{Leads, criterion, IsCriterion, GoesOn, IsSearch, IsClosed, BeginsWith, Appends, IsStepTo, IsPassTo, IsStep, IsPhaseBefore, HasChainToOneOf, IsSlice, link_of_step, step_links, AreStepsToCriterion}
 use Rattle.slicer.proofs.FindLemmas.{place_last}
 use Rattle.slicer.proofs.PhaseLemmas.{step_sound, leaves_more, leaves_chain, none_open, found_from}
 
@@ -244,7 +244,7 @@ module _ (nodes : List GraphNode) where
     pub criteria_are : (n : ℕ) → IsCriterion found n ↔ Contains criteria n
     criteria_are n = (criterion_among n, criterion_found n)
 
-    pub has_chain : (n : ℕ) → HasNode found n → HasChainToOneOf nodes criteria n
+    has_chain : (n : ℕ) → HasNode found n → HasChainToOneOf nodes criteria n
     has_chain n (phase, (k, below, e)) =
         let inside : k < length found = omega (arith, below, length-map found (λ (f : Found). f.place)) in
         let is : (get_or found k (criterion 0)).place ≡ place n phase = sym (get_or-map (λ (f : Found). f.place) found k (criterion 0) (place n phase) inside) ∙ e in
@@ -261,10 +261,12 @@ module _ (nodes : List GraphNode) where
           get_or-map (λ (f : Found). f.place) found at.0 (criterion c) (place c First) at.1 ∙ ap (λ (f : Found). f.place) at.2,
         )
 
-    pub is_found : CallsFit nodes → (n : ℕ) → HasChainToOneOf nodes criteria n → HasNode found n
-    is_found fits n (c, among, chain) =
-        found_from (name_at nodes) (HasEdge nodes) (λ a phase. HasPlace found (place a phase)) (λ a b before phase word leads r. closed (place a before) (place b phase) word leads r)
-        (λ a b kind edge. fits b a kind edge) n c chain (place_found c among)
+    is_found : (n : ℕ) → HasChainToOneOf nodes criteria n → HasNode found n
+    is_found n (c, among, chain) =
+        found_from (name_at nodes) (HasEdge nodes) (λ a phase. HasPlace found (place a phase)) (λ a b before phase word leads r. closed (place a before) (place b phase) word leads r) n c chain (place_found c among)
+
+    pub is_slice : IsSlice nodes criteria found
+    is_slice n = (has_chain n, is_found n)
 
   -- ---- the steps of a chain
 

@@ -2,28 +2,23 @@
 -- follows holds whatever calls are open: from a criterion one goes back to callers, and never into a callee. In the
 -- second what follows holds where no call is open: one goes back into callees, and to no caller but by a `pass`. A heap
 -- or a fork edge forgets the open calls, so the first phase begins anew before it.
-use Rattle.std.specs.Prelude.{◌≡◌, Bool, true, false, List, [], Option, Some, None, is_some}
-use Rattle.dep_nodes.specs.declared.kinds.NodeKind.{NodeKind}
+use Rattle.std.specs.Prelude.{◌≡◌, Bool, true, false, List, [], Option, Some, None}
 use Rattle.dep_nodes.specs.declared.kinds.EdgeKind.{EdgeKind}
 use Rattle.dep_nodes.specs.declared.kinds.EdgeKind.TheVariants.{Data, Control, Out, Arg, Call, Ret, Heap, Fork}
 use Rattle.dep_nodes.specs.declared.chains.Word.{Word}
 use Rattle.dep_nodes.specs.declared.chains.Word.TheVariants.{Edge, Pass}
-use Rattle.dep_nodes.specs.Nodes.{Node, CallSite, pc_of}
+use Rattle.dep_nodes.specs.Nodes.{Node, CallSite}
 use Rattle.dep_nodes.specs.Chains.{goes_in, comes_out, IsPassOver}
 use Rattle.slicer.specs.declared.finds.Phase.{Phase}
 use Rattle.slicer.specs.declared.finds.Phase.TheVariants.{First, Second}
 
--- whether a node of the kind has a pc
-abbrev pub has_pc : NodeKind → Bool
-has_pc kind = is_some (pc_of kind)
-
--- before the begin of a call, at a node that has a pc or not
+-- before the begin of a call, at a node where values go into one or not
 abbrev pub before_call : Bool → Phase → Option Phase
 before_call false phase = None
 before_call true First = Some First
 before_call true Second = None
 
--- before a return, to a node that has a pc or not
+-- before a return, to a node where a call comes out or not
 abbrev pub before_return : Bool → Option Phase
 before_return false = None
 before_return true = Some Second
@@ -33,9 +28,9 @@ abbrev pub phase_before : EdgeKind → Node → Node → Phase → Option Phase
 phase_before Data from to phase = Some phase
 phase_before Control from to phase = Some phase
 phase_before Out from to phase = Some phase
-phase_before Arg from to phase = before_call (has_pc from.kind) phase
-phase_before Call from to phase = before_call (has_pc from.kind) phase
-phase_before Ret from to phase = before_return (has_pc to.kind)
+phase_before Arg from to phase = before_call (goes_in from.kind) phase
+phase_before Call from to phase = before_call (goes_in from.kind) phase
+phase_before Ret from to phase = before_return (comes_out to.kind)
 phase_before Heap from to phase = Some First
 phase_before Fork from to phase = Some First
 
@@ -50,14 +45,3 @@ LeadsOver name E from before Pass to phase = IsPassOver name E from to × (befor
 abbrev pub MayBeOpen : Phase → List CallSite → Type 0
 MayBeOpen First calls = Unit {0}
 MayBeOpen Second calls = calls ≡ []
-
--- an `arg` or a `call` edge begins where values go into a call, a `ret` edge ends where a call comes out
-abbrev pub FitsCall : EdgeKind → Node → Node → Type 0
-FitsCall Data from to = Unit {0}
-FitsCall Control from to = Unit {0}
-FitsCall Out from to = Unit {0}
-FitsCall Arg from to = goes_in from.kind ≡ true
-FitsCall Call from to = goes_in from.kind ≡ true
-FitsCall Ret from to = comes_out to.kind ≡ true
-FitsCall Heap from to = Unit {0}
-FitsCall Fork from to = Unit {0}

@@ -1,5 +1,5 @@
 -- What a search has found of a graph, and what a slicer says of it.
-use Rattle.std.specs.Prelude.{◌≡◌, ℕ, ◌+◌, ◌<◌, List, [], ◌++◌, Some, length, map, All, Contains, slice_index_or}
+use Rattle.std.specs.Prelude.{◌≡◌, ◌↔◌, ℕ, ◌+◌, ◌<◌, List, [], ◌++◌, Some, length, map, All, Contains, slice_index_or}
 use Rattle.dep_nodes.specs.declared.kinds.EdgeKind.{EdgeKind}
 use Rattle.dep_nodes.specs.declared.chains.Word.{Word}
 use Rattle.dep_nodes.specs.declared.chains.Word.TheVariants.{Edge, Pass}
@@ -16,7 +16,7 @@ use Rattle.slicer.specs.declared.finds.Way.{Way}
 use Rattle.slicer.specs.declared.finds.Way.TheVariants.{Criterion, Step as AStep}
 use Rattle.slicer.specs.declared.finds.Found.{Found}
 use Rattle.slicer.specs.Finds.{place, place_at, HasPlace, HasNode}
-use Rattle.slicer.specs.Phases.{phase_before, LeadsOver, FitsCall}
+use Rattle.slicer.specs.Phases.{phase_before, LeadsOver}
 
 -- what contracts see of a slicer: the summary edges by their ends, the graph's count of nodes, what was found
 pub record Slices : Type 0 where
@@ -34,15 +34,6 @@ Leads nodes from word to =
 abbrev pub IsPhaseBefore : List GraphNode → ℕ → EdgeKind → Place → Phase → Type 0
 IsPhaseBefore nodes from kind to phase =
     phase_before kind (name_at nodes from) (name_at nodes to.node) to.phase ≡ Some phase
-
--- each edge to the node fits the ends of calls
-abbrev pub EdgesFit : List GraphNode → ℕ → Type 0
-EdgesFit nodes to =
-    (from : ℕ) (kind : EdgeKind) → HasEdge nodes from kind to → FitsCall kind (name_at nodes from) (name_at nodes to)
-
--- each edge of the graph fits the ends of calls
-abbrev pub CallsFit : List GraphNode → Type 0
-CallsFit nodes = (to : ℕ) → EdgesFit nodes to
 
 -- ---- what is found
 
@@ -113,13 +104,9 @@ IsStep item = (word : Word) × (next : ℕ) × (item.way ≡ AStep word next)
 abbrev pub HasChainToOneOf : List GraphNode → List ℕ → ℕ → Type 0
 HasChainToOneOf nodes criteria node = (c : ℕ) × Contains criteria c × HasNumberedChain nodes node c
 
--- each node that is found has such a chain
-abbrev pub MarksOnly : List GraphNode → List ℕ → List Found → Type 0
-MarksOnly nodes criteria found = (n : ℕ) → HasNode found n → HasChainToOneOf nodes criteria n
-
--- each node with such a chain is found
-abbrev pub MarksAll : List GraphNode → List ℕ → List Found → Type 0
-MarksAll nodes criteria found = (n : ℕ) → HasChainToOneOf nodes criteria n → HasNode found n
+-- exactly the nodes with such a chain are found
+abbrev pub IsSlice : List GraphNode → List ℕ → List Found → Type 0
+IsSlice nodes criteria found = (n : ℕ) → HasNode found n ↔ HasChainToOneOf nodes criteria n
 
 -- the slicer was made for the graph
 pub record IsSlicerOf (nodes : List GraphNode) (slicer : Slices) : Type 0 where

@@ -2,13 +2,11 @@
 #![tactic(auto)]
 
 mod finds;
-mod fits;
 mod marking;
 mod phases;
 mod search;
 
 pub use finds::{Found, Phase, Place, Way};
-pub use fits::calls_fit;
 pub use marking::Slicer;
 
 #[cfg(test)]

@@ -3,7 +3,7 @@ ghost use Rattle.std.specs.Prelude.{◌≡◌, ◌↔◌, ℕ, ◌<◌, [], leng
 ghost use Rattle.dep_nodes.specs.NumberedChains.{AreSummaries};
 ghost use Rattle.slicer.specs.declared.finds.Found.{Found as AFound};
 ghost use Rattle.slicer.specs.Finds.{place_at, HasNode};
-ghost use Rattle.slicer.specs.Slices.{CallsFit, IsCriterion, IsSearch, IsSlicerOf, IsChainToCriterion, AreStepsToCriterion, MarksAll, MarksOnly};
+ghost use Rattle.slicer.specs.Slices.{IsCriterion, IsSearch, IsSlice, IsSlicerOf, IsChainToCriterion, AreStepsToCriterion};
 
 use crate::finds::{Finds, Way};
 use crate::search::{begin, spread};
@@ -49,15 +49,13 @@ impl Slicer {
         })
     }
 
-    /// Marks exactly the nodes from which a valid chain leads to a criterion. Where edges don't fit the ends of calls
-    /// (`calls_fit`), a matched path need not have a summary edge: then it may mark fewer, and never others. Each edge
-    /// and each summary edge is looked at twice at most.
+    /// Marks exactly the nodes from which a valid chain leads to a criterion. Each edge and each summary edge is looked
+    /// at twice at most.
     pub fn mark(&mut self, graph: &DependenceGraph, criteria: &[NodeId])
         requires made { IsSlicerOf graph.now self.old }
         requires below { All (λ c. c < length graph.now) criteria.now }
         ensures made { IsSlicerOf graph.now self.new }
-        ensures marked { MarksOnly graph.now criteria.now self.new.found }
-        ensures all { CallsFit graph.now → MarksAll graph.now criteria.now self.new.found }
+        ensures marked { IsSlice graph.now criteria.now self.new.found }
         ensures criteria { (n : ℕ) → IsCriterion self.new.found n ↔ Contains criteria.now n }
     {
         self.finds.clear();

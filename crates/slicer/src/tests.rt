@@ -46,7 +46,7 @@ fn slice(
     criterion: u32,
 ) -> Result<Vec<(u32, usize)>, Memory> {
     let mut marked = Vec::new(alloc);
-    if criterion >= graph.len() || !calls_fit(graph) {
+    if criterion >= graph.len() {
         return Ok(marked);
     }
     let mut slicer = Slicer::new(alloc, graph, summaries(alloc, graph)?)?;

@@ -1,13 +1,13 @@
 -- What it says that two nodes belong to one call.
-use Rattle.std.proofs.Common.{◌≡◌, ℕ, ◌<◌, true, List, Option, Some, None, length, IsSomeAnd, slice_get, sym, ◌∙◌, ap, refl}
+use Rattle.std.proofs.Common.{◌≡◌, ℕ, ◌<◌, Bool, true, false, ◌&&◌, List, Option, Some, None, length, IsSomeAnd, slice_get, sym, ◌∙◌, ap, refl}
 use Rattle.std.proofs.lemmas.Option.{slice_get_within}
 use Rattle.dep_nodes.specs.declared.kinds.EdgeKind.{EdgeKind}
 use Rattle.dep_nodes.specs.declared.dependence_graph.GraphNode.{GraphNode}
-use Rattle.dep_nodes.specs.Nodes.{CallSite}
-use Rattle.dep_nodes.specs.Chains.{same_site}
+use Rattle.dep_nodes.specs.Nodes.{Node, CallSite}
+use Rattle.dep_nodes.specs.Chains.{same_site, goes_in, comes_out}
 use Rattle.dep_nodes.specs.GrowingGraphs.{HasEdge}
 use Rattle.dep_nodes.proofs.Sites.{sites_equal, site_itself}
-use Rattle.summary_edges.specs.Calls.{one_site}
+use Rattle.summary_edges.specs.Calls.{one_site, one_call, passes_over}
 
 -- ---- one call
 
@@ -32,6 +32,34 @@ one_equal o p e = let are = one_parts o p e in are.is_first ∙ ap (λ s. Some s
 
 pub one_from_equal : (o p : Option CallSite) (a : CallSite) → o ≡ Some a → o ≡ p → one_site o p ≡ true
 one_from_equal o p a e same = one_from_sites o p a a e (sym same ∙ e) (site_itself a)
+
+-- ---- where a call goes in and where it comes out
+
+pub record AllTrue (a b c : Bool) : Type 0 where
+  pub first : a ≡ true
+  pub second : b ≡ true
+  pub third : c ≡ true
+
+all_parts : (a b c : Bool) → (a && (b && c)) ≡ true → AllTrue a b c
+all_parts true true true e = record { first = refl; second = refl; third = refl }
+all_parts true true false e = absurd (cc)
+all_parts true false c e = absurd (cc)
+all_parts false b c e = absurd (cc)
+
+all_true : (a b c : Bool) → a ≡ true → b ≡ true → c ≡ true → (a && (b && c)) ≡ true
+all_true a b c e f g = rw (e, f, g) refl
+
+-- values go in at the first node, and the same call comes out at the second
+pub record Passed (a b : Node) : Type 0 where
+  pub begin : goes_in a.kind ≡ true
+  pub end : comes_out b.kind ≡ true
+  pub one : one_call a b ≡ true
+
+pub passed_parts : (a b : Node) → passes_over a b ≡ true → Passed a b
+passed_parts a b e = let all = all_parts (goes_in a.kind) (comes_out b.kind) (one_call a b) e in record { begin = all.first; end = all.second; one = all.third }
+
+pub passed_from : (a b : Node) → goes_in a.kind ≡ true → comes_out b.kind ≡ true → one_call a b ≡ true → passes_over a b ≡ true
+passed_from a b begin end one = all_true (goes_in a.kind) (comes_out b.kind) (one_call a b) begin end one
 
 -- ---- edges end at nodes
 

@@ -12,11 +12,12 @@ use Rattle.dep_nodes.specs.BalancedPaths.{stays_level, Balanced, nothing, level,
 use Rattle.dep_nodes.specs.GrowingGraphs.{HasEdge}
 use Rattle.dep_nodes.specs.NumberedChains.{name_at, IsNumberedMatched}
 use Rattle.dep_nodes.proofs.BalancedLemmas.{balanced_matched, matched_is_balanced}
+use Rattle.dep_nodes.proofs.CallEnds.{begun_parts, begun_from, ended_parts, ended_from}
 use Rattle.dep_nodes.proofs.ChainLemmas.{path_then}
 use Rattle.dep_nodes.proofs.Sites.{sites_equal, site_itself}
 use Rattle.summary_edges.specs.declared.joins.Join.{Join}
 use Rattle.summary_edges.specs.Levels.{ends_call, HasEdgeLike, IsJoin, joined, AreMatched, AreClosed}
-use Rattle.summary_edges.proofs.CallLemmas.{one_parts, one_from_sites, ends_inside}
+use Rattle.summary_edges.proofs.CallLemmas.{passed_parts, passed_from, one_parts, one_from_sites, ends_inside}
 
 module _ (nodes : List GraphNode) where
   -- ---- each join with a matched path through it is one
@@ -33,11 +34,13 @@ module _ (nodes : List GraphNode) where
 
   pub join_matched : (join : Join) → IsJoin nodes join → IsNumberedMatched nodes join.into join.out → IsNumberedMatched nodes join.from join.to
   join_matched join is path =
-      let are = one_parts (call_site (name_at nodes join.from)) (call_site (name_at nodes join.to)) is.one in
+      let passed = passed_parts (name_at nodes join.from) (name_at nodes join.to) is.over in
+      let are = one_parts (call_site (name_at nodes join.from)) (call_site (name_at nodes join.to)) passed.one in
+      let back : call_site (name_at nodes join.to) ≡ Some are.first = are.is_second ∙ ap (λ s. Some s) (sym (sites_equal are.first are.second are.same)) in
       let through = (matched_is_balanced (name_at nodes) (HasEdge nodes) join.into join.out).0 path in
       balanced_matched (name_at nodes) (HasEdge nodes) join.from join.to
-      (over is.begins.kind are.first join.from join.into join.out join.to is.begins.word is.begins.edge are.is_first through (returns_by is.ends.kind join.out join.to is.ends.word is.ends.edge)
-      (are.is_second ∙ ap (λ s. Some s) (sym (sites_equal are.first are.second are.same))))
+      (over is.begins.kind are.first join.from join.into join.out join.to is.begins.word is.begins.edge (begun_from (name_at nodes join.from) are.first passed.begin are.is_first) through
+      (returns_by is.ends.kind join.out join.to is.ends.word is.ends.edge) (ended_from (name_at nodes join.to) are.first passed.end back))
 
   pub level_matched : (from to : ℕ) → HasEdgeLike nodes stays_level from to → IsNumberedMatched nodes from to
   level_matched from to edge = balanced_matched (name_at nodes) (HasEdge nodes) from to (level edge.kind from to edge.word edge.edge)
@@ -63,10 +66,13 @@ module _ (nodes : List GraphNode) where
     path_back closed a b inside (level kind x y word edge) = path_edge (closed.stays x y (record { kind = kind; word = word; edge = edge; inside = inside }))
     path_back closed a b inside (over kind call x y z w word edge site path return back) =
         let below = ends_inside nodes x kind y edge in
+        let begun = begun_parts (name_at nodes x) call site in
+        let ended = ended_parts (name_at nodes w) call back in
+        let one = one_from_sites (call_site (name_at nodes x)) (call_site (name_at nodes w)) call call begun.1 ended.1 (site_itself call) in
         let is : IsJoin nodes (joined x y z w) = record {
           begins = record { kind = kind; word = word; edge = edge; inside = inside };
           ends = record { kind = Ret; word = refl; edge = return; inside = inside_on y z path below };
-          one = one_from_sites (call_site (name_at nodes x)) (call_site (name_at nodes w)) call call site back (site_itself call);
+          over = passed_from (name_at nodes x) (name_at nodes w) begun.0 ended.0 one;
         } in
         path_edge (closed.over (joined x y z w) is (path_back closed y z below path))
     path_back closed a b inside (both x y z first second) = path_on (path_back closed y z (inside_on x y first inside) second) (path_back closed x y inside first)

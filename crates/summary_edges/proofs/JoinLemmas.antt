@@ -10,28 +10,28 @@ use Rattle.dep_nodes.proofs.Sites.{sites_equal}
 use Rattle.summary_edges.specs.declared.joins.Join.{Join}
 use Rattle.summary_edges.specs.declared.joins.Sides.{Sides}
 use Rattle.summary_edges.specs.Adds.{Adds, From, FromBelow}
-use Rattle.summary_edges.specs.Calls.{one_call, lands_in, row_of_call, row_of_node, IsCallTable}
+use Rattle.summary_edges.specs.Calls.{passes_over, lands_in, row_of_call, row_of_node, IsCallTable}
 use Rattle.dep_nodes.specs.BalancedPaths.{begins_call}
 use Rattle.summary_edges.specs.Levels.{ends_call, AreEdgesLike, IsJoin, joined, JoinsFrom, JoinsTo, JoinsInside, JoinsOut}
 use Rattle.summary_edges.proofs.AddsLemmas.{adds_none, adds_alike}
-use Rattle.summary_edges.proofs.CallLemmas.{one_parts, ends_inside}
+use Rattle.summary_edges.proofs.CallLemmas.{passed_parts, one_parts, ends_inside}
 use Rattle.summary_edges.proofs.PairLemmas.{filter_there, number_there, row_itself}
 use Rattle.summary_edges.proofs.TableLemmas.{name_is}
 
 no_both : true ≡ false → ⊥
 no_both e = cc
 
-pub one_named : (nodes : List GraphNode) (from to : ℕ) (a b : NodeName) → option_map (λ n. n.name) (slice_get nodes from) ≡ Some a → option_map (λ n. n.name) (slice_get nodes to) ≡ Some b → one_call (node_named a) (node_named b) ≡ true → one_call (name_at nodes from) (name_at nodes to) ≡ true
-one_named nodes from to a b first second one = ap (λ n. one_call n (name_at nodes to)) (name_is nodes from a first) ∙ ap (λ n. one_call (node_named a) n) (name_is nodes to b second) ∙ one
+pub over_named : (nodes : List GraphNode) (from to : ℕ) (a b : NodeName) → option_map (λ n. n.name) (slice_get nodes from) ≡ Some a → option_map (λ n. n.name) (slice_get nodes to) ≡ Some b → passes_over (node_named a) (node_named b) ≡ true → passes_over (name_at nodes from) (name_at nodes to) ≡ true
+over_named nodes from to a b first second one = ap (λ n. passes_over n (name_at nodes to)) (name_is nodes from a first) ∙ ap (λ n. passes_over (node_named a) n) (name_is nodes to b second) ∙ one
 
 module _ (nodes : List GraphNode) (sides : Sides) (out to : ℕ) (S : Join → Type 0) where
   pub from_past : (from : ℕ) → length nodes ≤ from → Adds S S (JoinsFrom nodes sides out to from)
   from_past from past = adds_none S (JoinsFrom nodes sides out to from) (λ j made. omega (arith, made.0))
 
-  pub from_other : (from : ℕ) → one_call (name_at nodes from) (name_at nodes to) ≡ false → Adds S S (JoinsFrom nodes sides out to from)
+  pub from_other : (from : ℕ) → passes_over (name_at nodes from) (name_at nodes to) ≡ false → Adds S S (JoinsFrom nodes sides out to from)
   from_other from other = adds_none S (JoinsFrom nodes sides out to from) (λ j made. no_both (sym made.1 ∙ other))
 
-  pub from_same : (T : Join → Type 0) (from k : ℕ) (intos : List ℕ) → from < length nodes → one_call (name_at nodes from) (name_at nodes to) ≡ true → k ≡ from → intos ≡ get_or sides.openings k [] → Adds S T (From intos (λ into j. j ≡ joined from into out to)) → Adds S T (JoinsFrom nodes sides out to from)
+  pub from_same : (T : Join → Type 0) (from k : ℕ) (intos : List ℕ) → from < length nodes → passes_over (name_at nodes from) (name_at nodes to) ≡ true → k ≡ from → intos ≡ get_or sides.openings k [] → Adds S T (From intos (λ into j. j ≡ joined from into out to)) → Adds S T (JoinsFrom nodes sides out to from)
   from_same T from k intos inside one k_is is adds =
       adds_alike S T (From (get_or sides.openings from []) (λ into j. j ≡ joined from into out to)) (JoinsFrom nodes sides out to from)
       (subst (λ xs. Adds S T (From xs (λ into j. j ≡ joined from into out to))) (is ∙ ap (λ n. get_or sides.openings n []) k_is) adds)
@@ -60,11 +60,11 @@ module _ (nodes : List GraphNode) (sides : Sides) (out to : ℕ) (S : Join → T
 module _ (nodes : List GraphNode) (sides : Sides) (openings : AreEdgesLike nodes begins_call sides.openings) (returns : AreEdgesLike nodes ends_call sides.returns) (calls : IsCallTable nodes sides.calls) where
   found_is_join : (j : Join) → FromBelow (length nodes) (JoinsOut nodes sides) j → IsJoin nodes j
   found_is_join j (out, below, (to, returned, (to_inside, (row, is, (from, in_row, (from_inside, one, (into, opened, made))))))) =
-      subst (IsJoin nodes) (sym made) (record { begins = (openings.each from into).0 opened; ends = (returns.each out to).0 returned; one = one })
+      subst (IsJoin nodes) (sym made) (record { begins = (openings.each from into).0 opened; ends = (returns.each out to).0 returned; over = one })
 
   join_is_found : (j : Join) → IsJoin nodes j → FromBelow (length nodes) (JoinsOut nodes sides) j
   join_is_found j is =
-      let are = one_parts (call_site (name_at nodes j.from)) (call_site (name_at nodes j.to)) is.one in
+      let are = one_parts (call_site (name_at nodes j.from)) (call_site (name_at nodes j.to)) (passed_parts (name_at nodes j.from) (name_at nodes j.to) is.over).one in
       let row = row_of_call (length nodes) are.second in
       let to_row_is : row_of_node (length nodes) (name_at nodes j.to) ≡ Some row = ap (option_map (row_of_call (length nodes))) are.is_second in
       let from_row_is : row_of_node (length nodes) (name_at nodes j.from) ≡ Some row = ap (option_map (row_of_call (length nodes))) (are.is_first ∙ ap (λ s. Some s) (sites_equal are.first are.second are.same)) in
@@ -72,7 +72,7 @@ module _ (nodes : List GraphNode) (sides : Sides) (openings : AreEdgesLike nodes
       let in_row : Contains (get_or sides.calls row []) j.from =
       subst (λ xs. Contains xs j.from) (sym (calls.each row)) (filter_there (lands_in nodes row) (range_with_len 0 (length nodes)) j.from lands (number_there (length nodes) j.from is.begins.inside)) in
       let to_inside : j.to < length nodes = ends_inside nodes j.out is.ends.kind j.to is.ends.edge in
-      (j.out, is.ends.inside, (j.to, (returns.each j.out j.to).1 is.ends, (to_inside, (row, to_row_is, (j.from, in_row, (is.begins.inside, is.one, (j.into, (openings.each j.from j.into).1 is.begins, refl)))))))
+      (j.out, is.ends.inside, (j.to, (returns.each j.out j.to).1 is.ends, (to_inside, (row, to_row_is, (j.from, in_row, (is.begins.inside, is.over, (j.into, (openings.each j.from j.into).1 is.begins, refl)))))))
 
   pub all_joins : (T : Join → Type 0) → Adds (Contains []) T (FromBelow (length nodes) (JoinsOut nodes sides)) → (j : Join) → T j ↔ IsJoin nodes j
   all_joins T adds j = (λ t. there ((adds j).0 t), λ is. (adds j).1 (inr (join_is_found j is)))

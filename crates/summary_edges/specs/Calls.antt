@@ -1,9 +1,9 @@
 -- The nodes of one call (this project's own).
-use Rattle.std.specs.Prelude.{◌≡◌, ℕ, ◌+◌, ◌*◌, ◌%◌, Bool, false, ◌==◌, List, [], Option, Some, None, length, sum, option_map, slice_index_or}
+use Rattle.std.specs.Prelude.{◌≡◌, ℕ, ◌+◌, ◌*◌, ◌%◌, Bool, false, ◌==◌, ◌&&◌, List, [], Option, Some, None, length, sum, option_map, slice_index_or}
 use Rattle.std.specs.List.{filter, range_with_len}
 use Rattle.dep_nodes.specs.declared.dependence_graph.GraphNode.{GraphNode}
 use Rattle.dep_nodes.specs.Nodes.{Node, CallSite, call_site}
-use Rattle.dep_nodes.specs.Chains.{same_site}
+use Rattle.dep_nodes.specs.Chains.{same_site, goes_in, comes_out}
 use Rattle.dep_nodes.specs.NumberedChains.{name_at}
 
 -- whether both calls are there and one
@@ -15,6 +15,10 @@ one_site (Some a) (Some b) = same_site a b
 -- whether both nodes belong to one call
 abbrev pub one_call : Node → Node → Bool
 one_call a b = one_site (call_site a) (call_site b)
+
+-- whether values go at the first node into the call that comes out at the second
+abbrev pub passes_over : Node → Node → Bool
+passes_over a b = goes_in a.kind && (comes_out b.kind && one_call a b)
 
 -- ---- a table of the nodes by their calls
 

@@ -14,7 +14,7 @@ use Rattle.summary_edges.specs.declared.joins.Sides.{Sides}
 use Rattle.summary_edges.specs.declared.levels.Way.{Way}
 use Rattle.summary_edges.specs.declared.levels.Way.TheVariants.{Begins, Ends}
 use Rattle.summary_edges.specs.Adds.{Adds, From}
-use Rattle.summary_edges.specs.Calls.{one_call, row_of_node}
+use Rattle.summary_edges.specs.Calls.{passes_over, row_of_node}
 
 -- ---- edges by what they do
 
@@ -53,11 +53,12 @@ pub record AreEdgesLike (nodes : List GraphNode) (test : EdgeKind → Bool) (row
 
 -- ---- joins
 
--- where a call begins and where it ends: from a node into what is called, and out of there to a node of the same call
+-- where a call begins and where it ends: from where values go in into what is called, and out of there to where the same
+-- call comes out
 pub record IsJoin (nodes : List GraphNode) (join : Join) : Type 0 where
   pub begins : HasEdgeLike nodes begins_call join.from join.into
   pub ends : HasEdgeLike nodes ends_call join.out join.to
-  pub one : one_call (name_at nodes join.from) (name_at nodes join.to) ≡ true
+  pub over : passes_over (name_at nodes join.from) (name_at nodes join.to) ≡ true
 
 abbrev pub joined : ℕ → ℕ → ℕ → ℕ → Join
 joined from into out to = record { from = from; into = into; out = out; to = to }
@@ -70,7 +71,7 @@ AddsJoins old new = Adds (Contains old) (Contains new)
 -- the joins with this return that begin at a node, by the edges from there
 abbrev pub JoinsFrom : List GraphNode → Sides → ℕ → ℕ → ℕ → Join → Type 0
 JoinsFrom nodes sides out to from join =
-    (from < length nodes) × (one_call (name_at nodes from) (name_at nodes to) ≡ true)
+    (from < length nodes) × (passes_over (name_at nodes from) (name_at nodes to) ≡ true)
     × From (slice_index_or sides.openings from []) (λ into j. j ≡ joined from into out to) join
 
 -- the joins with this return, by the row of its call

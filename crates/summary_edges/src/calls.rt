@@ -3,7 +3,7 @@ ghost use Rattle.std.specs.Prelude.{◌≡◌, ◌+◌, ◌<◌, ◌*◌, ◌^�
 ghost use Rattle.std.specs.Str.{bytes_eq};
 ghost use Rattle.dep_nodes.specs.Nodes.{node_named, sites_of, pc_of as pc_in};
 ghost use Rattle.dep_nodes.specs.Chains.{goes_in as is_beginning, comes_out as is_outcome};
-ghost use Rattle.summary_edges.specs.Calls.{one_call, row_of_node, IsCallTable, IsTableBelow};
+ghost use Rattle.summary_edges.specs.Calls.{one_call, passes_over as is_passed_over, row_of_node, IsCallTable, IsTableBelow};
 
 use crate::rows::Rows;
 use dep_nodes::{DependenceGraph, NodeKind, NodeName, SiteList};
@@ -85,6 +85,13 @@ pub fn same_call(a: &NodeName, b: &NodeName) -> bool
         }
         _ => false,
     }
+}
+
+/// Whether values go at the first node into the call that comes out at the second.
+pub fn passes_over(from: &NodeName, to: &NodeName) -> bool
+    ensures { result ≡ is_passed_over (node_named from.now) (node_named to.now) }
+{
+    goes_in(from.kind) && (comes_out(to.kind) && same_call(from, to))
 }
 
 /// The row of a node's call in a table with so many rows. Any factors would do: these spread the pcs of a method.

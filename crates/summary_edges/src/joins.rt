@@ -6,7 +6,7 @@ ghost use Rattle.dep_nodes.specs.BalancedPaths.{begins_call};
 ghost use Rattle.summary_edges.specs.Levels.{AddsJoins, AreEdgesLike, IsJoin, ends_call, joined, JoinsFrom, JoinsTo, JoinsInside, JoinsOut};
 ghost use Rattle.summary_edges.specs.declared.joins.Join.{Join as JoinOf};
 
-use crate::calls::{call_row, same_call};
+use crate::calls::{call_row, passes_over};
 use crate::rows::Rows;
 use dep_nodes::DependenceGraph;
 use jo_ids::{Id, Memory, NodeId};
@@ -54,7 +54,7 @@ fn join_each(
     Ok(())
 }
 
-/// Adds the joins with this return that begin at a node, if it belongs to the same call.
+/// Adds the joins with this return that begin at a node, if values go in there and the same call comes out.
 fn join_from(
     joins: &mut Vec<Join>,
     graph: &DependenceGraph,
@@ -73,7 +73,7 @@ fn join_from(
     }
     let beginning = graph.node(from);
     let end = graph.node(to);
-    if !same_call(beginning, end) {
+    if !passes_over(beginning, end) {
         return Ok(());
     }
     let intos = sides.openings.at(number);
