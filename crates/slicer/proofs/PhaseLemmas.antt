@@ -1,5 +1,5 @@
 -- Steps back from place to place are steps of valid chains, and those that reach all that valid chains reach.
-use Rattle.std.proofs.Common.{◌≡◌, ◌≢◌, ℕ, true, false, Bool, List, [], ◌∷◌, ◌++◌, Option, Some, None, if◌then◌else◌, refl, sym, ◌∙◌, ap, subst, inl, inr, ◌⊎◌}
+use Rattle.std.proofs.Common.{◌≡◌, ◌≢◌, true, false, Bool, List, [], ◌∷◌, ◌++◌, Option, Some, None, if◌then◌else◌, refl, sym, ◌∙◌, ap, subst, inl, inr, ◌⊎◌}
 use Rattle.std.proofs.lemmas.Option.{same_Some, none-some}
 use Rattle.dep_nodes.specs.declared.kinds.EdgeKind.{EdgeKind}
 use Rattle.dep_nodes.specs.declared.kinds.EdgeKind.TheVariants.{Data, Control, Out, Arg, Call, Ret, Heap, Fork}
@@ -12,8 +12,8 @@ use Rattle.dep_nodes.proofs.ChainLemmas.{path_then}
 use Rattle.dep_nodes.proofs.Sites.{sites_equal, site_itself}
 use Rattle.slicer.specs.declared.finds.Phase.{Phase}
 use Rattle.slicer.specs.declared.finds.Phase.TheVariants.{First, Second}
-use Rattle.slicer.proofs.EndLemmas.{begun_at, ended_at}
 use Rattle.slicer.specs.Phases.{before_call, before_return, phase_before, LeadsOver, MayBeOpen}
+use Rattle.slicer.proofs.EndLemmas.{begun_at, ended_at}
 
 -- ---- the calls of edges
 
