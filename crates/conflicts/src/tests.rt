@@ -2,34 +2,12 @@
 ghost use Rattle.std.specs.Prelude.{◌≡◌, length, IfOk};
 
 use crate::find;
-use dep_nodes::{Cell, DependenceGraph, EdgeKind, GraphFault, NodeKind, NodeName, SiteList};
+use dep_nodes::{Cell, DependenceGraph, EdgeKind, GraphFault, NodeKind};
 use jo_ids::{BitRow, Id, Memory};
+use sample_graphs::{add_flow, name_in};
 use std::alloc::Global;
 use std::test::Fail;
 use thread_regions::regions;
-
-fn name(method: u32, kind: NodeKind) -> NodeName {
-    NodeName {
-        method: Id::of(method),
-        sites: SiteList {
-            len: 0,
-            first: Id::of(0),
-            second: Id::of(0),
-        },
-        kind,
-        resolved: None,
-    }
-}
-
-fn add_flow(graph: &mut DependenceGraph, from: u32, to: u32) -> Result<(), GraphFault> {
-    if from >= graph.len() || to >= graph.len() {
-        return Ok(());
-    }
-    match graph.add_flow(Id::of(from), Id::of(to)) {
-        Ok(()) => Ok(()),
-        Err(_) => Err(GraphFault::Memory),
-    }
-}
 
 fn add_access(
     graph: &mut DependenceGraph,
@@ -58,7 +36,7 @@ fn graph_of(
         (1, NodeKind::Call(1)),
     ];
     for (method, kind) in &names {
-        graph.add_node(name(*method, *kind))?;
+        graph.add_node(name_in(*method, *kind))?;
     }
     for (from, to) in &[(0, 1), (1, 2), (3, 4), more] {
         add_flow(&mut graph, *from, *to)?;

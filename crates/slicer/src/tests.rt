@@ -2,24 +2,12 @@
 ghost use Rattle.std.specs.Prelude.{◌≡◌, ◌<◌, length, IfOk};
 
 use super::*;
-use dep_nodes::{DependenceGraph, EdgeKind, GraphFault, NodeKind, NodeName, SiteList};
+use dep_nodes::{DependenceGraph, EdgeKind, GraphFault, NodeKind};
 use jo_ids::{Id, Memory, NodeId};
+use sample_graphs::name_in;
 use std::alloc::Global;
 use std::test::Fail;
 use summary_edges::summaries;
-
-fn name(method: u32, kind: NodeKind) -> NodeName {
-    NodeName {
-        method: Id::of(method),
-        sites: SiteList {
-            len: 0,
-            first: Id::of(0),
-            second: Id::of(0),
-        },
-        kind,
-        resolved: None,
-    }
-}
 
 /// The graph of these nodes, each a method and a kind, and edges between them.
 fn graph_of(
@@ -29,7 +17,7 @@ fn graph_of(
 ) -> Result<DependenceGraph, GraphFault> {
     let mut graph = DependenceGraph::new(alloc);
     for (method, kind) in nodes {
-        graph.add_node(name(*method, *kind))?;
+        graph.add_node(name_in(*method, *kind))?;
     }
     for (from, kind, to) in edges {
         if *from < graph.len() && *to < graph.len() {

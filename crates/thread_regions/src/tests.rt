@@ -1,32 +1,10 @@
 //! Regions of small graphs.
 use crate::{Regions, regions};
-use dep_nodes::{DependenceGraph, EdgeKind, GraphFault, NodeKind, NodeName, SiteList};
+use dep_nodes::{DependenceGraph, EdgeKind, GraphFault, NodeKind};
 use jo_ids::{Id, LimitKind};
+use sample_graphs::{add_flow, name_in};
 use std::alloc::Global;
 use std::test::Fail;
-
-fn name(method: u32, kind: NodeKind) -> NodeName {
-    NodeName {
-        method: Id::of(method),
-        sites: SiteList {
-            len: 0,
-            first: Id::of(0),
-            second: Id::of(0),
-        },
-        kind,
-        resolved: None,
-    }
-}
-
-fn add_flow(graph: &mut DependenceGraph, from: u32, to: u32) -> Result<(), GraphFault> {
-    if from >= graph.len() || to >= graph.len() {
-        return Ok(());
-    }
-    match graph.add_flow(Id::of(from), Id::of(to)) {
-        Ok(()) => Ok(()),
-        Err(_) => Err(GraphFault::Memory),
-    }
-}
 
 fn add_edge(
     graph: &mut DependenceGraph,
@@ -49,7 +27,7 @@ fn regions_by_hand(
 ) -> Result<Regions, GraphFault> {
     let mut graph = DependenceGraph::new(alloc);
     for (method, kind) in names {
-        graph.add_node(name(*method, *kind))?;
+        graph.add_node(name_in(*method, *kind))?;
     }
     for (from, to) in flows {
         add_flow(&mut graph, *from, *to)?;
@@ -151,7 +129,7 @@ fn what_a_callee_starts_runs_beside_its_callers(rt: HostRuntime) -> Result<(), F
 fn is_too_many(alloc: Global, forks: u32) -> bool {
     let mut graph = DependenceGraph::new(alloc);
     for n in 0..forks {
-        let added = graph.add_node(name(0, NodeKind::Call(n)));
+        let added = graph.add_node(name_in(0, NodeKind::Call(n)));
         if added.is_err() || add_edge(&mut graph, n, EdgeKind::Fork, n).is_err() {
             return false;
         }
