@@ -1,7 +1,8 @@
 //! Small dependence graphs by hand, for tests.
 #![tactic(auto)]
 
-ghost use Rattle.std.specs.Prelude.{◌≡◌, length};
+ghost use Rattle.std.specs.Prelude.{◌≡◌, ◌<◌, length, OnErr, OnOk};
+ghost use Rattle.dep_nodes.specs.GrowingGraphs.{AddsFlow};
 
 use dep_nodes::{DependenceGraph, GraphFault, NodeKind, NodeName, SiteList};
 use jo_ids::Id;
@@ -23,9 +24,11 @@ pub fn name_in(method: u32, kind: NodeKind) -> NodeName
     }
 }
 
-/// Adds the flow edge where both of its nodes are there.
+/// Adds the flow edge where both of its nodes are there, unless it is there.
 pub fn add_flow(graph: &mut DependenceGraph, from: u32, to: u32) -> Result<(), GraphFault>
-    ensures { length graph.new ≡ length graph.old }
+    ensures added { OnOk result (from < length graph.old → to < length graph.old → AddsFlow graph.old graph.new from to) }
+    ensures count { length graph.new ≡ length graph.old }
+    ensures err { OnErr result (graph.new ≡ graph.old) }
 {
     if from >= graph.len() || to >= graph.len() {
         return Ok(());
