@@ -9,6 +9,7 @@ pub mod Types
 pub mod Numbers
 pub mod PreludeClasses
 pub mod Typing
+pub mod MethodTypes
 pub mod Values
 pub mod Constants
 pub mod Machine
@@ -16,5 +17,6 @@ pub mod Runs
 pub mod PlainCode
 pub mod IntShapes
 pub mod Worked
+pub mod Rows
 pub mod Running
 pub mod Spelling
