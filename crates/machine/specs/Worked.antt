@@ -12,6 +12,7 @@ use Rattle.jo_prog.specs.declared.program.Code.{Code}
 use Rattle.jo_prog.specs.declared.program.Operand.{Operand}
 use Rattle.jo_prog.specs.declared.program.Operand.TheVariants.{Unused, Member, OfType}
 use Rattle.jo_prog.specs.declared.program.TypeRef.TheVariants.{Class as OfClass}
+use Rattle.jo_prog.specs.Program.{program_with}
 use Rattle.jo_prog.specs.PreludeClasses.{object_class}
 
 abbrev pub code_without_rows : List ℕ → Code
@@ -58,11 +59,7 @@ abbrev pub dividing_methods : List Method
 dividing_methods = method_of 1 (codes "main") (codes "()V") 0x0008 dividing_code ∷ native_show 1 ∷ []
 
 abbrev pub dividing_program : Program
-dividing_program = record {
-  classes = object_class ∷ main_class 0 (0 ∷ 1 ∷ []) (Unused ∷ show_of 1 ∷ []) ∷ [];
-  fields = [];
-  methods = dividing_methods;
-}
+dividing_program = program_with (object_class ∷ main_class 0 (0 ∷ 1 ∷ []) (Unused ∷ show_of 1 ∷ []) ∷ []) [] dividing_methods
 
 -- ---- two threads
 
@@ -99,8 +96,5 @@ starting_methods =
     ∷ native_show 4 ∷ []
 
 abbrev pub starting_program : Program
-starting_program = record {
-  classes = object_class ∷ object_class ∷ object_class ∷ thread_class ∷ main_class 3 (1 ∷ 2 ∷ 3 ∷ []) starting_operands ∷ [];
-  fields = [];
-  methods = starting_methods;
-}
+starting_program =
+    program_with (object_class ∷ object_class ∷ object_class ∷ thread_class ∷ main_class 3 (1 ∷ 2 ∷ 3 ∷ []) starting_operands ∷ []) [] starting_methods

@@ -1,7 +1,9 @@
 //! Laws of the machine. Each function is empty: what it ensures is the law.
-ghost use Rattle.std.specs.Prelude.{◌≡◌, ℕ, Bool, true, false, pos, List, [], ◌∷◌, replicate, Option};
+ghost use Rattle.std.specs.Prelude.{◌≡◌, ℕ, Bool, true, false, pos, negsuc, List, [], ◌∷◌, map, replicate, Option, Some, None};
 ghost use Rattle.jo_prog.specs.declared.runs.Event.TheVariants.{Out};
 ghost use Rattle.jo_prog.specs.Values.{Value, Info};
+ghost use Rattle.jo_text.specs.declared.descriptors.Base.TheVariants.{Byte, Short, Boolean};
+ghost use Rattle.machine.specs.Arithmetic.{int_op, narrow, kept_by};
 ghost use Rattle.machine.specs.Instructions.{Instruction};
 ghost use Rattle.machine.specs.Execution.{Ways, Fits, exec, cell_read};
 ghost use Rattle.machine.specs.Invocation.{Callee, invoked};
@@ -32,4 +34,16 @@ pub fn worked_runs()
     ensures first { run starting_program (shows_at 1 3) [] (replicate 8 0) ≡ record { events = Out 3 (pos 2) ∷ Out 3 (pos 1) ∷ []; ended = true } }
     ensures other { run starting_program (shows_at 1 3) [] (0 ∷ 0 ∷ 1 ∷ 1 ∷ 1 ∷ 0 ∷ 0 ∷ 0 ∷ []) ≡ record { events = Out 3 (pos 1) ∷ Out 3 (pos 2) ∷ []; ended = true } }
     ensures begun { run starting_program (shows_at 1 3) [] (0 ∷ []) ≡ record { events = []; ended = false } }
+{}
+
+/// Ints at their ends: the least by -1 is itself and leaves 0, a shift takes five bits, what narrows keeps low bits.
+pub fn worked_ints()
+    ensures quotients { map (λ op. int_op op (negsuc 2147483647) (negsuc 0)) (108 ∷ 112 ∷ []) ≡ Some (negsuc 2147483647) ∷ Some (pos 0) ∷ [] }
+    ensures by_zero { map (λ op. int_op op (pos 7) (pos 0)) (108 ∷ 112 ∷ 104 ∷ []) ≡ None ∷ None ∷ Some (pos 0) ∷ [] }
+    ensures signs { map (λ op. int_op op (negsuc 6) (pos 2)) (108 ∷ 112 ∷ []) ≡ Some (negsuc 2) ∷ Some (negsuc 0) ∷ [] }
+    ensures wraps { map (λ op. int_op op (pos 2147483647) (pos 2)) (96 ∷ 100 ∷ 104 ∷ []) ≡ Some (negsuc 2147483646) ∷ Some (pos 2147483645) ∷ Some (negsuc 1) ∷ [] }
+    ensures shifts { map (λ op. int_op op (negsuc 0) (pos 33)) (120 ∷ 122 ∷ 124 ∷ []) ≡ Some (negsuc 1) ∷ Some (negsuc 0) ∷ Some (pos 2147483647) ∷ [] }
+    ensures bits { map (λ op. int_op op (pos 12) (pos 10)) (126 ∷ 128 ∷ 130 ∷ []) ≡ Some (pos 8) ∷ Some (pos 14) ∷ Some (pos 6) ∷ [] }
+    ensures narrows { map (λ op. narrow op (pos 65535)) (145 ∷ 146 ∷ 147 ∷ []) ≡ negsuc 0 ∷ pos 65535 ∷ negsuc 0 ∷ [] }
+    ensures kept { map (λ base. kept_by base (pos 258)) (Boolean ∷ Byte ∷ Short ∷ []) ≡ pos 0 ∷ pos 2 ∷ pos 258 ∷ [] }
 {}
