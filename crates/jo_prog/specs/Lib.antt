@@ -4,11 +4,13 @@ pub mod Program
 pub mod Walks
 pub mod Hierarchy
 pub mod Sites
+pub mod SiteOrder
 pub mod Calls
 pub mod Types
 pub mod Numbers
 pub mod PreludeClasses
 pub mod Typing
+pub mod MethodTypes
 pub mod Values
 pub mod Constants
 pub mod Machine
@@ -16,5 +18,6 @@ pub mod Runs
 pub mod PlainCode
 pub mod IntShapes
 pub mod Worked
+pub mod Rows
 pub mod Running
 pub mod Spelling

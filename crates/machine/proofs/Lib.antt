@@ -1,0 +1,2 @@
+mod RenamedExec
+mod RenamedCalls

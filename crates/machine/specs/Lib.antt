@@ -1,0 +1,9 @@
+pub mod Arithmetic
+pub mod Instructions
+pub mod Execution
+pub mod Invocation
+pub mod Heaps
+pub mod Steps
+pub mod Runs
+pub mod Renamings
+pub mod Worked
