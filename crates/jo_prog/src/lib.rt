@@ -13,3 +13,4 @@ pub mod runner;
 pub mod runs;
 pub mod sites;
 pub mod spelling;
+pub mod typed;
