@@ -11,6 +11,9 @@ pub mod Numbers
 pub mod PreludeClasses
 pub mod Typing
 pub mod MethodTypes
+pub mod Shapes
+pub mod InsnTyping
+pub mod TypingPaths
 pub mod Values
 pub mod Constants
 pub mod Machine

@@ -14,3 +14,4 @@ pub mod runner;
 pub mod runs;
 pub mod sites;
 pub mod spelling;
+pub mod typed;
