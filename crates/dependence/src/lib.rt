@@ -2,3 +2,5 @@
 #![tactic(auto)]
 
 pub mod flow;
+pub mod flows;
+pub mod searches;
