@@ -7,10 +7,11 @@ use Rattle.jo_prog.specs.declared.labels.Label.{Label}
 use Rattle.jo_prog.specs.declared.labels.Label.TheVariants.{Source, Sink}
 use Rattle.jo_prog.specs.declared.labels.Labels.{Labels}
 use Rattle.jo_prog.specs.Labels.{label_of}
-use Rattle.jo_prog.specs.Program.{operation_at, callee_at}
+use Rattle.jo_prog.specs.Program.{method_at, operation_at, callee_at}
+use Rattle.jo_prog.specs.Constants.{takes_arguments}
 use Rattle.dependence.specs.declared.flow.Place.{Place}
 use Rattle.dep_nodes.specs.declared.kinds.NodeKind.{NodeKind}
-use Rattle.dep_nodes.specs.declared.kinds.NodeKind.TheVariants.{Instr, Call, RetVal, Arg, Kind, Thrown}
+use Rattle.dep_nodes.specs.declared.kinds.NodeKind.TheVariants.{Instr, Call, RetVal, Arg, Param, Kind, Thrown}
 use Rattle.dep_nodes.specs.declared.kinds.EdgeKind.{EdgeKind}
 use Rattle.dep_nodes.specs.declared.kinds.EdgeKind.TheVariants.{Data, Control, Out, Heap}
 use Rattle.dep_nodes.specs.Nodes.{Instance, Node, node}
@@ -37,13 +38,14 @@ abbrev pub is_sink : Option Label → Bool
 is_sink (Some (Sink level)) = true
 is_sink _ = false
 
--- a node of the graph: one of the flow graph, an argument of one of its calls, or an outcome
+-- a node of the graph: one of the flow graph, an argument of one of its calls, an outcome, or the parameter of the entry
 pub data IsNode (program : Program) (labels : Labels) : Node → Type 0 where
   of_flow : (i : Instance) (n : NodeKind) → IsReached labels i → IsFlowNode program i.method n → IsNode program labels (node i n)
   of_argument : (i : Instance) (pc a : ℕ) (v : Place) → IsReached labels i → IsFlowNode program i.method (Call pc) → ArgumentPlace program i.method pc a v
       → IsNode program labels (node i (Arg pc a))
   of_kind : (i : Instance) → IsReached labels i → IsNode program labels (node i Kind)
   of_thrown : (i : Instance) → IsReached labels i → IsNode program labels (node i Thrown)
+  of_parameter : (i : Instance) → IsReached labels i → takes_arguments (method_at program i.method) ≡ true → IsNode program labels (node i (Param 0))
 
 -- the node reads and writes the cursor of a source
 pub data UsesCursor (program : Program) (labels : Labels) : ℕ → Node → Type 0 where

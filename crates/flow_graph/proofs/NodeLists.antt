@@ -4,7 +4,7 @@ use Rattle.std.proofs.lemmas.Option.{none-some, same_Some}
 use Rattle.jo_prog.specs.declared.program.Program.{Program}
 use Rattle.jo_prog.specs.declared.labels.Labels.{Labels}
 use Rattle.dep_nodes.specs.declared.kinds.NodeKind.{NodeKind}
-use Rattle.dep_nodes.specs.declared.kinds.NodeKind.TheVariants.{Entry, Exit, Instr, Call, RetVal, Arg, Kind, Thrown}
+use Rattle.dep_nodes.specs.declared.kinds.NodeKind.TheVariants.{Entry, Exit, Instr, Call, RetVal, Arg, Param, Kind, Thrown}
 use Rattle.dep_nodes.specs.declared.kinds.EdgeKind.{EdgeKind}
 use Rattle.dep_nodes.specs.declared.graphs.NodeName.{NodeName}
 use Rattle.dep_nodes.specs.declared.graphs.Edge.{Edge}
@@ -76,10 +76,11 @@ rank Entry = 0
 rank Exit = 1
 rank Kind = 2
 rank Thrown = 3
-rank (Instr p) = 3 * p + 4
-rank (Call p) = 3 * p + 4
-rank (Arg p a) = 3 * p + 5
-rank (RetVal p) = 3 * p + 6
+rank (Param a) = 4
+rank (Instr p) = 3 * p + 5
+rank (Call p) = 3 * p + 5
+rank (Arg p a) = 3 * p + 6
+rank (RetVal p) = 3 * p + 7
 rank _ = 0
 
 -- nodes of the dependence graph, each once, of ranks below a bound, with what their instructions name

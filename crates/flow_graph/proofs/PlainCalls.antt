@@ -181,9 +181,9 @@ module _ (program : Program) (labels : Labels) (code : Code) (typed : IsTypedCod
               ];
         } in
         record {
-          nodes_right = nodes-weaker program labels (3 * pc + 6 + 1) (4 + 3 * (pc + 1)) grown
-              (nodes-push program labels (3 * pc + 4 + 1) mid result
-              (nodes-push program labels (4 + 3 * pc) nodes name built.nodes_right (of_flow (root labels) (Call pc) at_entry flow) (omega arith) (sym callee))
+          nodes_right = nodes-weaker program labels (3 * pc + 7 + 1) (5 + 3 * (pc + 1)) grown
+              (nodes-push program labels (3 * pc + 5 + 1) mid result
+              (nodes-push program labels (5 + 3 * pc) nodes name built.nodes_right (of_flow (root labels) (Call pc) at_entry flow) (omega arith) (sym callee))
               (of_flow (root labels) (RetVal pc) at_entry returns) (omega arith) (sym callee)) (omega arith);
           few = (let l = length_push nodes name in let l2 = length_push mid result in let f = built.few in omega arith);
           each_node = each_node-more program labels code typed pc nodes grown stay built.each_node (λ x is here. elim (kind_at_call program labels code typed pc call x is here) [
@@ -283,10 +283,10 @@ module _ (program : Program) (labels : Labels) (code : Code) (typed : IsTypedCod
           inputs = λ named y mine other low. absurd (no_cursor named mine);
         } in
         record {
-          nodes_right = nodes-weaker program labels (3 * pc + 6 + 1) (4 + 3 * (pc + 1)) grown
-              (nodes-push program labels (3 * pc + 5 + 1) two_more result
-              (nodes-push program labels (3 * pc + 4 + 1) one_more argument
-              (nodes-push program labels (4 + 3 * pc) nodes name built.nodes_right (of_flow (root labels) (Call pc) at_entry flow) (omega arith) (sym callee))
+          nodes_right = nodes-weaker program labels (3 * pc + 7 + 1) (5 + 3 * (pc + 1)) grown
+              (nodes-push program labels (3 * pc + 6 + 1) two_more result
+              (nodes-push program labels (3 * pc + 5 + 1) one_more argument
+              (nodes-push program labels (5 + 3 * pc) nodes name built.nodes_right (of_flow (root labels) (Call pc) at_entry flow) (omega arith) (sym callee))
               (argument_node (root labels) pc 0 (Stack (h - 1)) at_entry flow place) (omega arith) (sym callee))
               (of_flow (root labels) (RetVal pc) at_entry returns) (omega arith) (sym callee)) (omega arith);
           few = (let l3 = length_push two_more result in let g = built.few in omega arith);

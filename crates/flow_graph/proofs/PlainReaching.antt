@@ -6,7 +6,8 @@ use Rattle.jo_prog.specs.declared.operations.Operation.TheVariants.{Constant, Lo
 use Rattle.jo_prog.specs.declared.program.Program.{Program}
 use Rattle.jo_prog.specs.declared.program.Code.{Code}
 use Rattle.jo_prog.specs.declared.labels.Labels.{Labels}
-use Rattle.jo_prog.specs.Program.{operation_at}
+use Rattle.jo_prog.specs.Program.{method_at, operation_at}
+use Rattle.jo_prog.specs.Constants.{takes_arguments}
 use Rattle.jo_prog.specs.Typing.{Shape, Arrives, IsTypedCode}
 use Rattle.jo_prog.proofs.Decoding.{operation_at-next}
 use Rattle.dependence.specs.declared.flow.Place.{Place}
@@ -18,7 +19,7 @@ use Rattle.jo_ids.proofs.PathLemmas.{path_on}
 use Rattle.dependence.specs.Flow.{node_of, node_at, falls_through, FlowEdge, begins, skips, falls, leaves, calls, arrives, IsFlowNode, Writes, ArgumentPlace, FlowPath, FlowReaches, FlowControls}
 use Rattle.dependence.specs.Dependence.{one, more}
 use Rattle.dep_nodes.specs.Nodes.{Instance, Node, node}
-use Rattle.dependence.specs.Graph.{at_entry, IsNode, of_flow, of_argument, of_kind, of_thrown, UsesCursor, at_result, DependenceEdge, used, passed, shown, controlled, ended, next_input}
+use Rattle.dependence.specs.Graph.{at_entry, IsNode, of_flow, of_argument, of_kind, of_thrown, of_parameter, UsesCursor, at_result, DependenceEdge, used, passed, shown, controlled, ended, next_input}
 use Rattle.flow_graph.proofs.PlainLine.{pc_or_zero, node_at_step, out_of, LineAt, flow_line, flow_on, reaches_flow, IsBehind, predecessor}
 
 -- ---- places on the line
@@ -221,6 +222,7 @@ edge_to program labels a b kind (next_input source x y first second) = cursor_no
 -- what is known of a node of the graph by its kind
 abbrev pub IsKindOf : Program → ℕ → NodeKind → Type 0
 IsKindOf program m (Arg p a) = IsFlowNode program m (Call p) × ((v : Place) × ArgumentPlace program m p a v)
+IsKindOf program m (Param a) = (a ≡ 0) × (takes_arguments (method_at program m) ≡ true)
 IsKindOf program m Kind = Unit {0}
 IsKindOf program m Thrown = Unit {0}
 IsKindOf program m k = IsFlowNode program m k
@@ -242,7 +244,7 @@ module _ (program : Program) (labels : Labels) (code : Code) (typed : IsTypedCod
   line_kind (Poll p t) flow line = flow
   line_kind (XPoll p r) flow line = flow
   line_kind (Arg p a) flow line = absurd line
-  line_kind (Param a) flow line = flow
+  line_kind (Param a) flow line = absurd line
   line_kind Kind flow line = tt
   line_kind Value flow line = flow
   line_kind Thrown flow line = tt
@@ -272,9 +274,11 @@ module _ (program : Program) (labels : Labels) (code : Code) (typed : IsTypedCod
   node_kind n (of_argument i p a v at_entry flow place) = (refl, (flow, (v, place)))
   node_kind n (of_kind i at_entry) = (refl, tt)
   node_kind n (of_thrown i at_entry) = (refl, tt)
+  node_kind n (of_parameter i at_entry takes) = (refl, (refl, takes))
 
   pub node_placed : (n : Node) → IsNode program labels n → IsPlaced program labels.entry code n.kind
   node_placed n (of_flow i k at_entry flow) = flow_placed k flow
   node_placed n (of_argument i p a v at_entry flow place) = flow_placed (Call p) flow
   node_placed n (of_kind i at_entry) = inl refl
   node_placed n (of_thrown i at_entry) = inl refl
+  node_placed n (of_parameter i at_entry takes) = inl refl

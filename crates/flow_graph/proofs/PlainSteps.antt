@@ -38,8 +38,8 @@ use Rattle.flow_graph.proofs.NodeLists.{contains_one, contains_none, contains_fi
 
 -- the nodes, the edges and the results of sources up to this bound of positions are there, and nothing else
 pub record IsBuilt (program : Program) (labels : Labels) (bound : ℕ) (nodes : List NodeName) (edges : List Edge) (results : List SourceResult) : Type 0 where
-  pub nodes_right : AreNodes program labels (4 + 3 * bound) nodes
-  pub few : length nodes ≤ 4 + 3 * bound
+  pub nodes_right : AreNodes program labels (5 + 3 * bound) nodes
+  pub few : length nodes ≤ 5 + 3 * bound
   pub each_node : (n : Node) → IsNode program labels n → position n.kind ≤ bound → (j : ℕ) × (node_in nodes j ≡ Some n)
   pub first : node_in nodes 0 ≡ Some (node (root labels) Entry)
   pub third : node_in nodes 2 ≡ Some (node (root labels) Kind)
@@ -388,8 +388,8 @@ module _ (program : Program) (labels : Labels) (code : Code) (typed : IsTypedCod
         inputs = λ source y mine other low. absurd (no (return_line program labels code typed pc (cursor_flow program labels source (node (root labels) (RetVal pc)) mine)));
       } in
       record {
-        nodes_right = nodes-weaker program labels (3 * pc + 4 + 1) (4 + 3 * (pc + 1)) more
-            (nodes-push program labels (4 + 3 * pc) nodes name built.nodes_right (of_flow (root labels) (Instr pc) at_entry flow) (omega arith) refl) (omega arith);
+        nodes_right = nodes-weaker program labels (3 * pc + 5 + 1) (5 + 3 * (pc + 1)) more
+            (nodes-push program labels (5 + 3 * pc) nodes name built.nodes_right (of_flow (root labels) (Instr pc) at_entry flow) (omega arith) refl) (omega arith);
         few = (let l = length_push nodes name in let f = built.few in omega arith);
         each_node = each_node-more program labels code typed pc nodes more stay built.each_node (λ k is here. (j, at ∙ ap (λ x. Some (node (root labels) x)) (sym (kind_at_instr program labels code typed pc instr k is here))));
         first = first;

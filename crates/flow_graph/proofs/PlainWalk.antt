@@ -1,16 +1,18 @@
 -- The walk over plain code, from its start to its return.
-use Rattle.std.proofs.Common.{◌≡◌, ◌≢◌, ◌⊎◌, inl, inr, ℕ, ◌+◌, ◌*◌, ◌-◌, ◌^◌, ◌<◌, ◌≤◌, true, false, List, [], ◌∷◌, ◌++◌, length, replicate, get_or, Option, Some, None, Contains, refl, sym, ap, subst, ◌∙◌, arith}
+use Rattle.std.proofs.Common.{◌≡◌, ◌≢◌, ◌⊎◌, inl, inr, ℕ, ◌+◌, ◌*◌, ◌-◌, ◌^◌, ◌<◌, ◌≤◌, Bool, true, false, List, [], ◌∷◌, ◌++◌, length, replicate, get_or, Option, Some, None, Contains, refl, sym, ap, subst, ◌∙◌, arith}
 use Rattle.std.specs.List.{AllByRecursion}
 use Rattle.std.proofs.lemmas.Bool.{cases_lt, cases_Bool, false≢true, true≢false}
 use Rattle.std.proofs.lemmas.Option.{none-some}
-use Rattle.std.proofs.lemmas.List.{length-replicate, get_or-replicate, get_or_past, length_push}
+use Rattle.std.specs.Prelude.{if◌then◌else◌}
+use Rattle.std.proofs.lemmas.List.{append-nil, length-replicate, get_or-replicate, get_or_past, length_push}
 use Rattle.jo_prog.specs.declared.operations.Operation.{Operation}
 use Rattle.jo_prog.specs.declared.operations.Operation.TheVariants.{Constant, Load, Store, Add, Subtract, InvokeStatic, Return, Other}
 use Rattle.jo_prog.specs.declared.program.Program.{Program}
 use Rattle.jo_prog.specs.declared.program.Code.{Code}
 use Rattle.jo_prog.specs.declared.labels.Labels.{Labels}
 use Rattle.jo_prog.specs.Labels.{label_of}
-use Rattle.jo_prog.specs.Program.{code_at, operation_at, callee_at}
+use Rattle.jo_prog.specs.Program.{method_at, code_at, operation_at, callee_at}
+use Rattle.jo_prog.specs.Constants.{takes_arguments}
 use Rattle.jo_prog.specs.PlainCode.{IsLabelledNative, goes_on, IsPlainFrom, IsPlainProgram}
 use Rattle.jo_prog.specs.Typing.{Shape, shape_after, shape_at_start, Arrives, at_start, IsTypedCode, HasHeight}
 use Rattle.jo_prog.proofs.Decoding.{operation_at-next}
@@ -29,12 +31,12 @@ use Rattle.jo_ids.specs.Path.{stays, goes}
 use Rattle.dependence.specs.Flow.{node_of, node_at, falls_through, FlowEdge, begins, skips, falls, leaves, calls, arrives, IsFlowNode, writes_of, Reads, Writes, by_instr, by_result, FlowPath, FlowReaches}
 use Rattle.dependence.specs.Dependence.{one, more}
 use Rattle.dep_nodes.specs.Nodes.{Node, node}
-use Rattle.dependence.specs.Graph.{at_entry, IsNode, of_flow, of_kind, of_thrown, is_source, is_sink, UsesCursor, at_result, DependenceEdge, used, passed, shown, controlled, ended, next_input}
+use Rattle.dependence.specs.Graph.{at_entry, IsNode, of_flow, of_kind, of_thrown, of_parameter, is_source, is_sink, UsesCursor, at_result, DependenceEdge, used, passed, shown, controlled, ended, next_input}
 use Rattle.dependence.specs.GraphData.{IsDependenceGraph}
 use Rattle.flow_graph.specs.Building.{definition_of, HasPlace, name_of, start_nodes, IsStart, is_call, is_return, height_after, AddsInstruction, AddsSource, AddsSink}
 use Rattle.flow_graph.proofs.PlainLine.{node_at_one, node_at_step, out_of, flow_line, flow_on, IsBehind, between, behind_next}
 use Rattle.flow_graph.proofs.PlainReaching.{position, no_write_at_call, root, IsKindOf, node_kind, node_placed, edge_from, edge_to, controlled_flow}
-use Rattle.flow_graph.proofs.NodeLists.{contains_one, contains_none, contains_first, node_in, NodesStay, stay-push, node-push, nodes-none, nodes-push, nodes-weaker}
+use Rattle.flow_graph.proofs.NodeLists.{contains_one, contains_none, contains_first, node_in, NodesStay, stay-push, node-push, AreNodes, nodes-none, nodes-push, nodes-weaker}
 use Rattle.flow_graph.proofs.PlainSteps.{IsBuilt, IsDefined, defined_next, instr_writes, instr_built}
 use Rattle.flow_graph.proofs.PlainCalls.{source_built, sink_built, result_place}
 use Rattle.flow_graph.proofs.PlainTyping.{goes_on_from, height_by, height_by_call, places_by, arrival_locals, source_call, sink_call, plain_callee}
@@ -124,7 +126,7 @@ reaches_start program m v d n (one y e w) is = no_write_at_entry program m v (su
 reaches_start program m v d n (more x y r not e) is = reaches_entry program m v d x r (into_start program m x y e is)
 
 module _ (program : Program) (labels : Labels) (code : Code) (typed : IsTypedCode program labels.entry code) where
-  start_node : (k : NodeKind) → IsKindOf program labels.entry k → position k ≤ 0 → (j : ℕ) × (node_in (start_nodes labels.entry) j ≡ Some (node (root labels) k))
+  start_node : (k : NodeKind) → IsKindOf program labels.entry k → position k ≤ 0 → (j : ℕ) × (node_in (start_nodes (takes_arguments (method_at program labels.entry)) labels.entry) j ≡ Some (node (root labels) k))
   start_node Entry is low = (0, refl)
   start_node Exit is low = (1, refl)
   start_node (Instr p) is low = absurd (omega arith)
@@ -136,7 +138,7 @@ module _ (program : Program) (labels : Labels) (code : Code) (typed : IsTypedCod
   start_node (Poll p t) is low = absurd (flow_line program labels.entry code typed (Poll p t) is)
   start_node (XPoll p row) is low = absurd (flow_line program labels.entry code typed (XPoll p row) is)
   start_node (Arg p a) is low = absurd (omega arith)
-  start_node (Param a) is low = absurd (flow_line program labels.entry code typed (Param a) is)
+  start_node (Param a) is low = (4, rw (is.0, is.1) refl)
   start_node Kind is low = (2, refl)
   start_node Value is low = absurd (flow_line program labels.entry code typed Value is)
   start_node Thrown is low = (3, refl)
@@ -175,7 +177,18 @@ module _ (program : Program) (labels : Labels) (code : Code) (typed : IsTypedCod
   no_edge_at_start a b kind (ended i p next at_entry flow found) low high = (let no : ⊥ = omega arith in no)
   no_edge_at_start a b kind (next_input source x y first second) low high = no_cursor_at_start source x first low
 
-  start_built : IsBuilt program labels 0 (start_nodes labels.entry) [] []
+  -- with the parameter, or without
+  start_right : (has : Bool) → takes_arguments (method_at program labels.entry) ≡ has → (nodes : List NodeName) → AreNodes program labels 4 nodes
+      → AreNodes program labels 5 (nodes ++ (if has then name_of labels.entry (Param 0) None ∷ [] else []))
+  start_right true takes nodes right = nodes-push program labels 4 nodes (name_of labels.entry (Param 0) None) right (of_parameter (root labels) at_entry takes) (omega arith) refl
+  start_right false takes nodes right =
+      subst (AreNodes program labels 5) (sym (append-nil nodes)) (nodes-weaker program labels 4 5 nodes right (omega arith))
+
+  start_few : (has : Bool) → length (start_nodes has labels.entry) ≤ 5
+  start_few true = omega arith
+  start_few false = omega arith
+
+  start_built : IsBuilt program labels 0 (start_nodes (takes_arguments (method_at program labels.entry)) labels.entry) [] []
   start_built =
       let m = labels.entry in
       let entry_flow : IsFlowNode program m Entry = stays Entry in
@@ -185,15 +198,15 @@ module _ (program : Program) (labels : Labels) (code : Code) (typed : IsTypedCod
       let c = name_of m Kind None in
       let d = name_of m Thrown None in
       record {
-        nodes_right = nodes-weaker program labels (3 + 1) (4 + 3 * 0) (start_nodes m)
+        nodes_right = start_right (takes_arguments (method_at program m)) refl (a ∷ b ∷ c ∷ d ∷ [])
             (nodes-push program labels (2 + 1) (a ∷ b ∷ c ∷ []) d
             (nodes-push program labels (1 + 1) (a ∷ b ∷ []) c
             (nodes-push program labels (0 + 1) (a ∷ []) b
             (nodes-push program labels 0 [] a (nodes-none program labels) (of_flow (root labels) Entry at_entry entry_flow) (omega arith) refl)
             (of_flow (root labels) Exit at_entry exit_flow) (omega arith) refl)
             (of_kind (root labels) at_entry) (omega arith) refl)
-            (of_thrown (root labels) at_entry) (omega arith) refl) (omega arith);
-        few = omega arith;
+            (of_thrown (root labels) at_entry) (omega arith) refl);
+        few = start_few (takes_arguments (method_at program m));
         each_node = λ n is low. (let k = node_kind program labels code typed n is in let at = start_node n.kind k.1 low in (at.0, at.1 ∙ ap (λ x. Some x) (sym k.0)));
         first = refl;
         third = refl;
@@ -237,12 +250,13 @@ pub record IsWalked (program : Program) (labels : Labels) (pc height : ℕ) (b :
   pub stack : length b.definitions.stack.items ≡ code.max_stack
 
 pub walked_start : (program : Program) (labels : Labels) (b : Builder) (plain : IsPlainProgram program labels) → length plain.code.bytes < 2 ^ 16 → plain.code.max_stack < 2 ^ 16
-    → IsStart b labels.entry plain.code.max_locals plain.code.max_stack → IsWalked program labels 0 0 b
+    → IsStart b (takes_arguments (method_at program labels.entry)) labels.entry plain.code.max_locals plain.code.max_stack → IsWalked program labels 0 0 b
 walked_start program labels b plain short low start =
     let m = labels.entry in
+    let has = takes_arguments (method_at program m) in
     let built : IsBuilt program labels 0 b.nodes b.edges b.results =
-    subst (λ x. IsBuilt program labels 0 x b.edges b.results) (sym start.nodes) (subst (λ x. IsBuilt program labels 0 (start_nodes m) x b.results) (sym start.edges)
-    (subst (λ x. IsBuilt program labels 0 (start_nodes m) [] x) (sym start.results) (start_built program labels plain.code plain.typed))) in
+    subst (λ x. IsBuilt program labels 0 x b.edges b.results) (sym start.nodes) (subst (λ x. IsBuilt program labels 0 (start_nodes has m) x b.results) (sym start.edges)
+    (subst (λ x. IsBuilt program labels 0 (start_nodes has m) [] x) (sym start.results) (start_built program labels plain.code plain.typed))) in
     record {
       code = plain.code;
       found = plain.found;
@@ -286,7 +300,7 @@ module _ (program : Program) (labels : Labels) (pc next height : ℕ) (operation
   built_next other nodes edges results h =
       let up = operation_at-next program labels.entry pc next operation found in
       record {
-        nodes_right = nodes-weaker program labels (4 + 3 * (pc + 1)) (4 + 3 * next) nodes h.nodes_right (omega arith);
+        nodes_right = nodes-weaker program labels (5 + 3 * (pc + 1)) (5 + 3 * next) nodes h.nodes_right (omega arith);
         few = (let f = h.few in omega arith);
         each_node = λ n is low. h.each_node n is (at_most n is other low);
         first = h.first;

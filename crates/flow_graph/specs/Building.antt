@@ -15,7 +15,7 @@ use Rattle.flow_graph.specs.declared.sdg.Definitions.{Definitions}
 use Rattle.flow_graph.specs.declared.sdg.SourceResult.{SourceResult}
 use Rattle.flow_graph.specs.declared.sdg.Builder.{Builder}
 use Rattle.dependence.specs.Flow.{reads_of, writes_of}
-use Rattle.dep_nodes.specs.declared.kinds.NodeKind.TheVariants.{Entry, Exit, Instr, Call, RetVal, Arg, Kind, Thrown}
+use Rattle.dep_nodes.specs.declared.kinds.NodeKind.TheVariants.{Entry, Exit, Instr, Call, RetVal, Arg, Param, Kind, Thrown}
 use Rattle.dep_nodes.specs.Graphs.{edge}
 
 -- the number of the node that wrote a place last
@@ -116,13 +116,15 @@ is_return _ = false
 abbrev pub HasShortCode : Program → ℕ → Type 0
 HasShortCode program m = (code : Code) → code_at program m ≡ Some code → (length code.bytes < 2 ^ 16) × (code.max_stack < 2 ^ 16) × (code.max_locals < 2 ^ 16)
 
--- the nodes that every graph has, in the order of their numbers
-abbrev pub start_nodes : ℕ → List NodeName
-start_nodes method = name_of method Entry None ∷ name_of method Exit None ∷ name_of method Kind None ∷ name_of method Thrown None ∷ []
+-- the nodes that every graph has, in the order of their numbers, and that of the entry's parameter where it has one
+abbrev pub start_nodes : Bool → ℕ → List NodeName
+start_nodes has_arguments method =
+    name_of method Entry None ∷ name_of method Exit None ∷ name_of method Kind None ∷ name_of method Thrown None
+    ∷ (if has_arguments then name_of method (Param 0) None ∷ [] else [])
 
 -- a builder as the walk begins
-pub record IsStart (new : Builder) (method max_locals max_stack : ℕ) : Type 0 where
-  pub nodes : new.nodes ≡ start_nodes method
+pub record IsStart (new : Builder) (has_arguments : Bool) (method max_locals max_stack : ℕ) : Type 0 where
+  pub nodes : new.nodes ≡ start_nodes has_arguments method
   pub edges : new.edges ≡ []
   pub locals : new.definitions.locals.items ≡ replicate max_locals None
   pub stack : new.definitions.stack.items ≡ replicate max_stack None

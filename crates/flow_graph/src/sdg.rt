@@ -17,6 +17,7 @@ use jo_ids::{List, Memory, MethodId, NodeId, SiteId};
 use jo_prog::labels::{Label, Labels, label_of};
 use jo_prog::operations::Operation;
 use jo_prog::program::{Program, callee_at, code_at, operation_at};
+use jo_prog::runner::takes_arguments;
 use std::alloc::Global;
 
 /// The node that wrote each place last, for each local and for each height of the stack.
@@ -208,7 +209,8 @@ fn add_heap(
     Ok(())
 }
 
-/// What the walk has made so far. The first four nodes are Entry, Exit, Kind and Thrown.
+/// What the walk has made so far. The first four nodes are Entry, Exit, Kind and Thrown, and behind them stands the parameter of an
+/// entry that has one.
 #[derive(Drop)]
 struct Builder {
     nodes: List<NodeName>,
@@ -218,20 +220,24 @@ struct Builder {
 }
 
 impl Builder {
-    /// A builder with the nodes that every graph has.
+    /// A builder with the nodes that no instruction has.
     fn new(
         alloc: Global,
+        has_arguments: bool,
         method: MethodId,
         max_locals: usize,
         max_stack: usize,
     ) -> Result<Builder, Memory>
-        ensures { IfOk result (λ b. IsStart b method max_locals max_stack) }
+        ensures { IfOk result (λ b. IsStart b has_arguments method max_locals max_stack) }
     {
         let mut nodes = List::new(alloc);
         add_node(&mut nodes, method, NodeKind::Entry, None)?;
         add_node(&mut nodes, method, NodeKind::Exit, None)?;
         add_node(&mut nodes, method, NodeKind::Kind, None)?;
         add_node(&mut nodes, method, NodeKind::Thrown, None)?;
+        if has_arguments {
+            add_node(&mut nodes, method, NodeKind::Param(0), None)?;
+        }
         let definitions = Definitions {
             locals: vec![in alloc; None; max_locals]?,
             stack: vec![in alloc; None; max_stack]?,
@@ -405,7 +411,8 @@ pub fn build(alloc: Global, program: &Program, labels: &Labels) -> Result<Graph,
 {
     let method = labels.entry;
     let (max_locals, max_stack) = sizes_of(program, method);
-    let mut builder = Builder::new(alloc, method, max_locals, max_stack)?;
+    let has_arguments = takes_arguments(program, method);
+    let mut builder = Builder::new(alloc, has_arguments, method, max_locals, max_stack)?;
     let mut pc = 0;
     let mut height = 0;
     loop {

@@ -11,7 +11,7 @@ use Rattle.jo_prog.specs.declared.program.Program.{Program}
 use Rattle.jo_prog.specs.declared.program.Method.{Method}
 use Rattle.jo_prog.specs.Numbers.{count_from}
 use Rattle.jo_prog.specs.Program.{method_at}
-use Rattle.jo_prog.specs.PlainCode.{IsEntry}
+use Rattle.jo_prog.specs.PlainCode.{is_entry_desc, IsEntry}
 use Rattle.jo_policy.specs.PolicyFile.{place_from, level_named, pair_of, pairs_of, flows_of, is_entry, entry_with, entry_of, spellings_of, method_named}
 
 -- ---- what holds of the value in a `Some`
@@ -87,8 +87,8 @@ entry_at program m (Some method) found =
     if_then_some (IsEntry program) (is_entry method) (Some m) None
     (λ fits.
     let (is_static, rest) = and_parts (has_flag static_flag method.flags) _ fits in
-    let (has_code, shape) = and_parts _ (bytes_eq method.desc (codes "()V")) rest in
-    record { method = method; found = found; is_static = is_static; has_code = has_code; shape = (bytes_eq-Decides method.desc (codes "()V")).0 shape })
+    let (has_code, shape) = and_parts _ (is_entry_desc method.desc) rest in
+    record { method = method; found = found; is_static = is_static; has_code = has_code; shape = shape })
     tt
 
 pub entry_of-fits : (program : Program) (value : Option Data) → IfSome (entry_of program value) (IsEntry program)

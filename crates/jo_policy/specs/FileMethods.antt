@@ -7,6 +7,7 @@ use Rattle.jo_prog.specs.declared.program.Program.{Program}
 use Rattle.jo_prog.specs.declared.program.Method.{Method}
 use Rattle.jo_prog.specs.Program.{method_at}
 use Rattle.jo_prog.specs.Spelling.{spelled_in}
+use Rattle.jo_prog.specs.PlainCode.{is_entry_desc}
 use Rattle.jo_policy.specs.declared.spellings.MethodIndex.{MethodIndex}
 
 -- the method stands in a class of the files: their classes are those from a first one on
@@ -29,8 +30,7 @@ method_named first_class program text = named_from first_class program text 0 pr
 
 -- an entry is a static method with code that takes nothing, or the texts of the command line
 abbrev pub is_entry : Method → Bool
-is_entry m =
-    has_flag static_flag m.flags && (is_some m.code && (bytes_eq m.desc (codes "()V") || bytes_eq m.desc (codes "([Ljava/lang/String;)V")))
+is_entry m = has_flag static_flag m.flags && (is_some m.code && is_entry_desc m.desc)
 
 abbrev pub entry_with : ℕ → Option Method → Option ℕ
 entry_with m None = None

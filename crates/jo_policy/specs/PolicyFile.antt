@@ -14,7 +14,7 @@ use Rattle.jo_prog.specs.declared.program.Method.{Method}
 use Rattle.jo_prog.specs.Numbers.{count_from}
 use Rattle.jo_prog.specs.Program.{method_at}
 use Rattle.jo_prog.specs.Labels.{label_among}
-use Rattle.jo_prog.specs.PlainCode.{desc_for}
+use Rattle.jo_prog.specs.PlainCode.{desc_for, is_entry_desc}
 use Rattle.jo_prog.specs.Spelling.{spelled_in}
 
 -- ---- keys
@@ -86,7 +86,7 @@ abbrev pub method_named : List (List ℕ) → List ℕ → Option ℕ
 method_named spellings text = place_from 0 spellings text
 
 abbrev pub is_entry : Method → Bool
-is_entry m = has_flag static_flag m.flags && (is_some m.code && bytes_eq m.desc (codes "()V"))
+is_entry m = has_flag static_flag m.flags && (is_some m.code && is_entry_desc m.desc)
 
 abbrev pub entry_with : ℕ → Option Method → Option ℕ
 entry_with m None = None

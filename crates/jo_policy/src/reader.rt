@@ -213,7 +213,8 @@ fn is_entry(method: &Method) -> bool
 {
     has_flag(ACC_STATIC, method.flags)
         && method.code.is_some()
-        && method.desc.as_slice() == b"()V".as_slice()
+        && (method.desc.as_slice() == b"()V".as_slice()
+            || method.desc.as_slice() == b"([Ljava/lang/String;)V".as_slice())
 }
 
 fn read_entry(program: &Program, spellings: &[Name], tree: &Table) -> Option<MethodId>

@@ -1,6 +1,7 @@
 -- Labels that fit a program, and the first form of programs: one class, whose only code is the entry's, in one straight line.
-use Rattle.std.specs.Prelude.{◌≡◌, ℕ, ◌<◌, Bool, true, false, List, length, map, Option, Some, None, IsSome, codes}
+use Rattle.std.specs.Prelude.{◌≡◌, ℕ, ◌<◌, Bool, true, false, ◌||◌, List, length, map, Option, Some, None, IsSome, codes}
 use Rattle.std.specs.List.{AllByRecursion}
+use Rattle.std.specs.Str.{bytes_eq}
 use Rattle.std.specs.List.Sorted.{IsStrictlyIncreasing}
 use Rattle.jo_insn.specs.AccessFlags.{has_flag, static_flag, native_flag}
 use Rattle.jo_prog.specs.declared.operations.Operation.{Operation}
@@ -37,13 +38,17 @@ pub record IsLabelledNative (program : Program) (labels : Labels) (item : ℕ ×
   pub shape : method.desc ≡ desc_for item.1
   pub levels : HasGoodLevels labels item.1
 
--- the entry is a static method with code and without parameters
+-- an entry takes nothing, or the texts of the command line
+abbrev pub is_entry_desc : List ℕ → Bool
+is_entry_desc desc = bytes_eq desc (codes "()V") || bytes_eq desc (codes "([Ljava/lang/String;)V")
+
+-- the entry is a static method with code
 pub record IsEntry (program : Program) (m : ℕ) : Type 0 where
   pub method : Method
   pub found : method_at program m ≡ Some method
   pub is_static : has_flag static_flag method.flags ≡ true
   pub has_code : IsSome method.code
-  pub shape : method.desc ≡ codes "()V"
+  pub shape : is_entry_desc method.desc ≡ true
 
 -- labels that fit a program: all numbers are there, each native has its label, and no method has two
 pub record IsWellLabelled (program : Program) (labels : Labels) : Type 0 where

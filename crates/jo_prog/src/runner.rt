@@ -88,7 +88,7 @@ fn pop_two(stack: &mut Vec<Slot>) -> Option<(i32, i32)>
 }
 
 /// Whether a method has the descriptor of an entry that takes an array of strings.
-fn takes_arguments(program: &Program, method: MethodId) -> bool
+pub fn takes_arguments(program: &Program, method: MethodId) -> bool
     ensures { result ≡ takes_arguments (method_at program.now method) }
 {
     match method_at(program, method) {

@@ -20,7 +20,7 @@ use Rattle.dependence.specs.Flow.{IsFlowNode, FlowEdge, begins, skips, falls, le
 use Rattle.dep_nodes.specs.Nodes.{Instance, Node, node, node_named}
 use Rattle.dep_nodes.specs.Graphs.{graph_name, graph_node, HasName, links_of, walk_end, WalksTo}
 use Rattle.dep_nodes.specs.Chains.{Link, end_of}
-use Rattle.dependence.specs.Graph.{IsNode, of_flow, of_argument, of_kind, of_thrown, IsReached, label_at}
+use Rattle.dependence.specs.Graph.{IsNode, of_flow, of_argument, of_kind, of_thrown, of_parameter, IsReached, label_at}
 use Rattle.dependence.specs.GraphData.{resolved_of, IsDependenceGraph}
 use Rattle.flow_graph.proofs.ChainWalks.{walk_is_valid, walk_ends, chain_is_walk, chain_of_program, no_fork}
 use Rattle.low_run.specs.Verdict.{label_resolved, Hides, Shows, IsHidden, IsObserved, IllegalChain, Clean, CleanForAll, HasCleanGraph}
@@ -131,18 +131,21 @@ result_node program labels x pc (of_flow i n reached flow) e = (reached, subst (
 result_node program labels x pc (of_argument i p a v reached flow place) e = absurd (cc)
 result_node program labels x pc (of_kind i reached) e = absurd (cc)
 result_node program labels x pc (of_thrown i reached) e = absurd (cc)
+result_node program labels x pc (of_parameter i reached takes) e = absurd (cc)
 
 call_node : (program : Program) (labels : Labels) (x : Node) (pc : ℕ) → IsNode program labels x → x.kind ≡ Call pc → IsReached labels x.inst × IsFlowNode program x.inst.method (Call pc)
 call_node program labels x pc (of_flow i n reached flow) e = (reached, subst (IsFlowNode program i.method) e flow)
 call_node program labels x pc (of_argument i p a v reached flow place) e = absurd (cc)
 call_node program labels x pc (of_kind i reached) e = absurd (cc)
 call_node program labels x pc (of_thrown i reached) e = absurd (cc)
+call_node program labels x pc (of_parameter i reached takes) e = absurd (cc)
 
 argument_node : (program : Program) (labels : Labels) (x : Node) (pc k : ℕ) → IsNode program labels x → x.kind ≡ Arg pc k → IsReached labels x.inst × IsFlowNode program x.inst.method (Call pc)
 argument_node program labels x pc k (of_flow i n reached flow) e = absurd (no_argument program i.method n pc k flow e)
 argument_node program labels x pc k (of_argument i p a v reached flow place) e = (reached, subst (λ q. IsFlowNode program i.method (Call q)) (let same : p ≡ pc = cc in same) flow)
 argument_node program labels x pc k (of_kind i reached) e = absurd (cc)
 argument_node program labels x pc k (of_thrown i reached) e = absurd (cc)
+argument_node program labels x pc k (of_parameter i reached takes) e = absurd (cc)
 
 -- ---- names on a side
 

@@ -1,5 +1,6 @@
 use Rattle.std.proofs.Common.{◌≡◌, inl, inr, Some, true, false, sym, subst, ◌∙◌, arith}
-use Rattle.jo_prog.specs.Program.{operation_at, callee_at}
+use Rattle.jo_prog.specs.Program.{method_at, operation_at, callee_at}
+use Rattle.jo_prog.specs.Constants.{takes_arguments}
 use Rattle.jo_prog.proofs.Decoding.{operation_at-next}
 use Rattle.flow_graph.specs.Building.{IsStart, is_call, is_return}
 use Rattle.dependence.specs.GraphData.{IsDependenceGraph}
@@ -11,9 +12,12 @@ loop-operation-init c =
     let plain = c.requires.plain in
     let short = c.requires.short plain.code plain.found in
     let sizes = c.sizes_of-max_locals.ensures plain.code plain.found in
+    let takes = takes_arguments (method_at c.args.program.now c.args.labels.now.entry) in
     walked_start c.args.program.now c.args.labels.now c.in_ok-builder.builder plain short.0 short.1
-    (subst (λ n. IsStart c.in_ok-builder.builder c.args.labels.now.entry n plain.code.max_stack) sizes.0
-    (subst (λ n. IsStart c.in_ok-builder.builder c.args.labels.now.entry c.sizes_of-max_locals.result.0 n) sizes.1 c.in_ok-builder.ensures))
+    (subst (λ n. IsStart c.in_ok-builder.builder takes c.args.labels.now.entry n plain.code.max_stack) sizes.0
+    (subst (λ n. IsStart c.in_ok-builder.builder takes c.args.labels.now.entry c.sizes_of-max_locals.result.0 n) sizes.1
+    (subst (λ has. IsStart c.in_ok-builder.builder has c.args.labels.now.entry c.sizes_of-max_locals.result.0 c.sizes_of-max_locals.result.1)
+        c.takes_arguments-has_arguments.ensures c.in_ok-builder.ensures)))
 
 pub add_call-requires-clause-place : goal.add_call-requires-clause-place
 add_call-requires-clause-place c = λ s named source.
