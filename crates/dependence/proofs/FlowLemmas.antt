@@ -99,7 +99,7 @@ flow_with_node rows new node count more is few made =
     subst (λ xs. IsFlow xs more) (sym made) (record {
       few = few;
       rows = subst (λ k. AllByRecursion (IsInside k) (rows ++ bare node ∷ [])) (sym size)
-        (all_push (IsInside (length rows + 1)) rows (bare node) (all_weaker (IsInside (length rows)) (IsInside (length rows + 1)) rows wider is.rows) (record { inside = tt; once = none }));
+          (all_push (IsInside (length rows + 1)) rows (bare node) (all_weaker (IsInside (length rows)) (IsInside (length rows + 1)) rows wider is.rows) (record { inside = tt; once = none }));
     })
   where
     wider : (row : FlowRow) → IsInside (length rows) row → IsInside (length rows + 1) row

@@ -1,3 +1,5 @@
 pub mod BehindLemmas
+pub mod DataLemmas
 pub mod FlowLemmas
 pub mod ListedLemmas
+pub mod OpcodeLemmas

@@ -2,6 +2,11 @@ pub mod Behind
 pub mod Dependence
 pub mod Flow
 pub mod FlowData
+pub mod FlowGraph
 pub mod Graph
 pub mod GraphData
+pub mod GraphsAsData
 pub mod Listed
+pub mod MayBeNull
+pub mod NodePlaces
+pub mod WideGraph

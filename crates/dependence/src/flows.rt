@@ -21,6 +21,9 @@ pub struct FlowNode {
     pub method: Option<MethodId>,
 }
 
+/// Flow graphs by the numbers of their instances.
+pub type FlowSet = List<Flow>;
+
 /// A use of a place at a node, with a definition that reaches it.
 #[derive(Clone, Copy, PartialEq, Eq)]
 pub struct Use {
