@@ -153,11 +153,7 @@ fn program(alloc: Global) -> Result<Program, Memory>
     let mut classes = List::new(alloc);
     add(&mut classes, object(alloc)?)?;
     add(&mut classes, class(alloc)?)?;
-    Ok(Program {
-        classes,
-        fields: List::new(alloc),
-        methods: methods(alloc)?,
-    })
+    Program::build(alloc, classes, List::new(alloc), methods(alloc)?)
 }
 
 fn labels(alloc: Global) -> Result<Labels, Memory>

@@ -28,16 +28,21 @@ fn method_of(alloc: Global, is_static: bool) -> Result<Method, Memory> {
     })
 }
 
-fn add_class(alloc: Global, program: &mut Program, row: &Row) -> Result<(), Memory> {
+fn add_class(
+    alloc: Global,
+    classes: &mut List<Class>,
+    all: &mut List<Method>,
+    row: &Row,
+) -> Result<(), Memory> {
     let mut interfaces = List::new(alloc);
     for interface in row.1 {
         add(&mut interfaces, Id::of(*interface))?;
     }
     let mut methods = List::new(alloc);
     for is_static in row.2 {
-        let number = program.methods.as_slice().len().min(1000) as u32;
+        let number = all.as_slice().len().min(1000) as u32;
         add(&mut methods, Id::of(number))?;
-        add(&mut program.methods, method_of(alloc, *is_static)?)?;
+        add(all, method_of(alloc, *is_static)?)?;
     }
     let class = Class {
         name: Name::new(alloc),
@@ -51,19 +56,16 @@ fn add_class(alloc: Global, program: &mut Program, row: &Row) -> Result<(), Memo
         methods,
         operands: List::new(alloc),
     };
-    add(&mut program.classes, class)
+    add(classes, class)
 }
 
 fn program_of(alloc: Global, rows: &[Row]) -> Result<Program, Memory> {
-    let mut program = Program {
-        classes: List::new(alloc),
-        fields: List::new(alloc),
-        methods: List::new(alloc),
-    };
+    let mut classes = List::new(alloc);
+    let mut methods = List::new(alloc);
     for row in rows {
-        add_class(alloc, &mut program, row)?;
+        add_class(alloc, &mut classes, &mut methods, row)?;
     }
-    Ok(program)
+    Program::build(alloc, classes, List::new(alloc), methods)
 }
 
 /// What a class makes of m()V: the number of the method that it resolves, and of the one that a search from it finds. None where a

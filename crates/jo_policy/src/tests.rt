@@ -66,11 +66,7 @@ fn program(alloc: Global) -> Result<Program, Memory> {
             operands: List::new(alloc),
         },
     )?;
-    Ok(Program {
-        classes,
-        fields: List::new(alloc),
-        methods,
-    })
+    Program::build(alloc, classes, List::new(alloc), methods)
 }
 
 /// The number of a fault.

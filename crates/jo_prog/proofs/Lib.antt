@@ -9,4 +9,5 @@ pub mod TypingPaths
 pub mod WalkLemmas
 pub mod HierarchyLemmas
 pub mod InsnSteps
+mod SiteLemmas
 pub mod ArrayLemmas

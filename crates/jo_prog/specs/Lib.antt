@@ -4,6 +4,7 @@ pub mod Program
 pub mod Walks
 pub mod Hierarchy
 pub mod Sites
+pub mod SiteOrder
 pub mod Calls
 pub mod Types
 pub mod Numbers

@@ -1,5 +1,6 @@
--- What stands in a program: the instruction at a pc, and the method that it names.
-use Rattle.std.specs.Prelude.{ℕ, ◌^◌, Bool, false, ◌&&◌, nat_lt, if◌then◌else◌, List, [], ◌∷◌, length, Option, Some, None, Result, Ok, Err, option_and_then, slice_get}
+-- What stands in a program: its parts by their numbers, the instruction at a pc, and the method that it names.
+use Rattle.std.specs.Prelude.{ℕ, ◌^◌, ◌<◌, refl, Bool, false, ◌&&◌, nat_lt, if◌then◌else◌, List, [], ◌∷◌, length, Option, Some, None, Result, Ok, Err, option_and_then, slice_get}
+use Rattle.std.specs.List.{position_from}
 use Rattle.std.specs.Str.{bytes_eq}
 use Rattle.jo_insn.specs.Instructions.{decoded}
 use Rattle.jo_insn.specs.declared.instructions.Insn.{Insn}
@@ -7,14 +8,27 @@ use Rattle.jo_insn.specs.declared.instructions.InsnFault.{InsnFault}
 use Rattle.jo_prog.specs.declared.operations.Operation.{Operation}
 use Rattle.jo_prog.specs.declared.operations.Operation.TheVariants.{InvokeStatic}
 use Rattle.jo_prog.specs.Operations.{operation_of}
+use Rattle.jo_prog.specs.Sites.{sites_of}
 use Rattle.jo_prog.specs.declared.program.Program.{Program}
 use Rattle.jo_prog.specs.declared.program.Class.{Class}
+use Rattle.jo_prog.specs.declared.program.Field.{Field}
 use Rattle.jo_prog.specs.declared.program.Method.{Method}
 use Rattle.jo_prog.specs.declared.program.Code.{Code}
 use Rattle.jo_prog.specs.declared.program.TypeRef.{TypeRef}
 use Rattle.jo_prog.specs.declared.program.TypeRef.TheVariants.{Class as OfClass, Array as OfArray}
 use Rattle.jo_prog.specs.declared.program.Operand.{Operand}
 use Rattle.jo_prog.specs.declared.program.Operand.TheVariants.{Member}
+
+-- the program with these parts; they alone determine its sites
+abbrev pub program_with : List Class → List Field → List Method → Program
+program_with classes fields methods = record { classes = classes; fields = fields; methods = methods; sites = sites_of methods; sites_are = refl }
+
+-- each part has a number
+pub record HasNumbers (program : Program) : Type 0 where
+  pub classes : length program.classes < 2 ^ 32
+  pub fields : length program.fields < 2 ^ 32
+  pub methods : length program.methods < 2 ^ 32
+  pub sites : length program.sites < 2 ^ 32
 
 abbrev pub method_at : Program → ℕ → Option Method
 method_at program m = slice_get program.methods m
@@ -73,3 +87,16 @@ callee_of program m _ = None
 
 abbrev pub callee_at : Program → ℕ → ℕ → Option ℕ
 callee_at program m pc = callee_of program m (operation_at program m pc)
+
+-- ---- a method by its spelling
+
+abbrev pub is_class_named : List ℕ → Class → Bool
+is_class_named name class = bytes_eq class.name name
+
+-- the first class with that name
+abbrev pub class_named : Program → List ℕ → Option ℕ
+class_named program name = position_from (is_class_named name) 0 program.classes
+
+-- the first method of that class with that name and descriptor
+abbrev pub find : Program → List ℕ → List ℕ → List ℕ → Option ℕ
+find program class name desc = option_and_then (λ c. resolve program c name desc) (class_named program class)

@@ -12,6 +12,7 @@ use Rattle.jo_prog.specs.declared.program.Operand.{Operand}
 use Rattle.jo_prog.specs.declared.program.Operand.TheVariants.{Unused, Member}
 use Rattle.jo_prog.specs.declared.program.TypeRef.TheVariants.{Class as OfClass}
 use Rattle.jo_prog.specs.declared.runs.SourceInput.{SourceInput}
+use Rattle.jo_prog.specs.Program.{program_with}
 use Rattle.jo_prog.specs.PreludeClasses.{object_class}
 
 -- 0 invokestatic get, 3 istore_0, 4 invokestatic secret, 7 istore_1, 8 iload_0, 9 iconst_1, 10 iadd, 11 invokestatic show, 14 return
@@ -41,12 +42,9 @@ worked_class = record {
 }
 
 abbrev pub worked_program : Program
-worked_program = record {
-  classes = object_class ∷ worked_class ∷ [];
-  fields = [];
-  methods = native (codes "secret") (codes "()I") ∷ native (codes "get") (codes "()I") ∷ native (codes "show") (codes "(I)V")
-      ∷ record { class = 1; name = codes "main"; desc = codes "()V"; flags = 0x0008; code = Some worked_code } ∷ [];
-}
+worked_program = program_with (object_class ∷ worked_class ∷ []) []
+    (native (codes "secret") (codes "()I") ∷ native (codes "get") (codes "()I") ∷ native (codes "show") (codes "(I)V")
+    ∷ record { class = 1; name = codes "main"; desc = codes "()V"; flags = 0x0008; code = Some worked_code } ∷ [])
 
 -- level 0 is low and flows to level 1, which is high
 abbrev pub worked_labels : Labels

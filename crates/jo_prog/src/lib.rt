@@ -6,6 +6,7 @@ pub mod jvm_typing;
 pub mod labels;
 pub mod laws;
 pub mod lists;
+pub mod lookups;
 pub mod members;
 pub mod operations;
 pub mod program;

@@ -1,24 +1,24 @@
 //! The classes of a program, with numbers in the place of names.
 
-ghost use Rattle.std.specs.Prelude.{◌≡◌, ℕ, ◌+◌, ◌<◌, ◌^◌, ◌≤◌, option_map, Some, IfSome, length, ◌&&◌};
-ghost use Rattle.std.specs.Option.{option_copied};
-ghost use Rattle.jo_prog.specs.Program.{method_at, class_at, code_at, operation_in, operation_at, first_with, resolve_operand, operand_at, callee_of, callee_at};
-ghost use Rattle.std.specs.Str.{bytes_eq};
+ghost use Rattle.std.specs.Prelude.{◌≡◌};
+ghost use Rattle.jo_prog.specs.Sites.{sites_of};
 
-use crate::operations::{Operation, operation_of};
-use jo_ids::{ClassId, FieldId, List, MethodId};
-use jo_insn::decode;
+pub(crate) use crate::lookups::{callee_of, first_with, operation_in};
+pub use crate::lookups::{callee_at, class_at, code_at, method_at, operation_at};
+use crate::lookups::{class_named, has_numbers};
+use crate::sites::{Site, site_of, sites_of};
+use jo_ids::{ClassId, FieldId, List, Memory, MethodId, SiteId};
 use jo_text::{FieldDesc, Name};
+use std::alloc::{AllocError, Global};
 
-/// How many bytes code has at most.
-const LONGEST_CODE: usize = 65_535;
-
-/// The classes in order, the prelude's first, and all their fields and methods.
+/// The classes in order, the prelude's first, all their fields and methods, and the sites of the methods.
 #[derive(Drop)]
 pub struct Program {
     pub classes: List<Class>,
     pub fields: List<Field>,
     pub methods: List<Method>,
+    pub sites: List<Site>,
+    pub ghost sites_are: { sites ≡ sites_of methods },
 }
 
 /// A class or interface. Its operands stand at their pool index.
@@ -91,123 +91,113 @@ pub enum Operand {
     Member(MemberRef),
 }
 
-/// The method with that number, if the program has it.
-pub fn method_at(program: &Program, method: MethodId) -> Option<&Method>
-    ensures { option_copied result ≡ method_at program.now method }
-{
-    program.methods.as_slice().get(method.number() as usize)
-}
+impl Program {
+    ghost use Rattle.std.specs.Prelude.{◌<◌, ◌^◌, length, IfOk, Some, slice_get};
+    ghost use Rattle.jo_prog.specs.Program.{program_with, HasNumbers, find as method_named};
+    ghost use Rattle.jo_prog.specs.Sites.{site_of as number_of};
 
-/// The class with that number, if the program has it.
-pub fn class_at(program: &Program, class: ClassId) -> Option<&Class>
-    ensures { option_copied result ≡ class_at program.now class }
-{
-    program.classes.as_slice().get(class.number() as usize)
-}
-
-/// The code of a method. `None` for a native method and for a number that no method has.
-pub fn code_at(program: &Program, method: MethodId) -> Option<&Code>
-    ensures { option_copied result ≡ code_at program.now method }
-{
-    method_at(program, method)?.code.as_ref()
-}
-
-/// What the instruction at a pc of this code does, and the pc behind it.
-pub(crate) fn operation_in(code: &Code, pc: usize) -> Option<(Operation, usize)>
-    ensures value { result ≡ operation_in (Some code.now) pc }
-    ensures above { IfSome result (λ found. pc < found.1) }
-    ensures inside { IfSome result (λ found. found.1 ≤ length code.now.bytes) }
-    ensures short { IfSome result (λ found. found.1 < 2 ^ 16) }
-{
-    let bytes = code.bytes.as_slice();
-    if bytes.len() > LONGEST_CODE {
-        return None;
-    }
-    if pc >= bytes.len() {
-        return None;
-    }
-    match decode(bytes, pc as u32) {
-        Ok((insn, next)) => Some((operation_of(insn), next as usize)),
-        Err(_) => None,
-    }
-}
-
-/// What the instruction at a pc of a method does, and the pc behind it. `None` where no instruction stands.
-pub fn operation_at(program: &Program, method: MethodId, pc: u32) -> Option<(Operation, u32)>
-    ensures { result ≡ operation_at program.now method pc }
-{
-    let (operation, next) = operation_in(code_at(program, method)?, pc as usize)?;
-    Some((operation, next as u32))
-}
-
-fn has_signature(method: &Method, name: &[u8], desc: &[u8]) -> bool
-    ensures { result ≡ (bytes_eq method.now.name name.now && bytes_eq method.now.desc desc.now) }
-{
-    method.name.as_slice() == name && method.desc.as_slice() == desc
-}
-
-pub(crate) fn first_with(
-    program: &Program,
-    name: &[u8],
-    desc: &[u8],
-    methods: &[MethodId],
-) -> Option<MethodId>
-    ensures { result ≡ first_with program.now name.now desc.now methods.now }
-{
-    for m in methods {
-        if let Some(method) = method_at(program, *m) {
-            if has_signature(method, name, desc) {
-                return Some(*m);
-            }
+    /// The program with these parts. Where there are 2^32 of one kind or more, memory is said to be wanting.
+    pub fn build(
+        alloc: Global,
+        classes: List<Class>,
+        fields: List<Field>,
+        methods: List<Method>,
+    ) -> Result<Program, Memory>
+        ensures program { IfOk result (λ program. program ≡ program_with classes fields methods) }
+        ensures numbers { IfOk result HasNumbers }
+    {
+        let sites = sites_of(alloc, methods.as_slice())?;
+        if has_numbers(classes.as_slice().len())
+            && has_numbers(fields.as_slice().len())
+            && has_numbers(methods.as_slice().len())
+            && has_numbers(sites.as_slice().len())
+        {
+            Ok(Program {
+                classes,
+                fields,
+                methods,
+                sites,
+            })
+        } else {
+            Err(AllocError)
         }
     }
-    None
-}
 
-fn resolve_operand(program: &Program, operand: &Operand) -> Option<MethodId>
-    ensures { result ≡ resolve_operand program.now (Some operand.now) }
-{
-    let Operand::Member(member) = operand else {
-        return None;
-    };
-    let TypeRef::Class(owner) = &member.owner else {
-        return None;
-    };
-    let class = class_at(program, *owner)?;
-    first_with(
-        program,
-        member.name.as_slice(),
-        member.desc.as_slice(),
-        class.methods.as_slice(),
-    )
-}
+    /// How many classes there are.
+    pub fn classes(&self) -> u32
+        requires { length self.now.classes < 2 ^ 32 }
+        ensures { result ≡ length self.now.classes }
+    {
+        self.classes.as_slice().len() as u32
+    }
 
-/// What an instruction of a method names by this pool index.
-fn operand_at(program: &Program, method: MethodId, index: u16) -> Option<&Operand>
-    ensures { option_copied result ≡ operand_at program.now method index }
-{
-    let class = class_at(program, method_at(program, method)?.class)?;
-    class.operands.as_slice().get(index as usize)
-}
+    /// How many fields there are.
+    pub fn fields(&self) -> u32
+        requires { length self.now.fields < 2 ^ 32 }
+        ensures { result ≡ length self.now.fields }
+    {
+        self.fields.as_slice().len() as u32
+    }
 
-/// The method that an operation of a method names.
-pub(crate) fn callee_of(
-    program: &Program,
-    method: MethodId,
-    operation: Operation,
-) -> Option<MethodId>
-    ensures { (next : ℕ) → result ≡ callee_of program.now method (Some (operation, next)) }
-{
-    let Operation::InvokeStatic(index) = operation else {
-        return None;
-    };
-    resolve_operand(program, operand_at(program, method, index)?)
-}
+    /// How many methods there are.
+    pub fn methods(&self) -> u32
+        requires { length self.now.methods < 2 ^ 32 }
+        ensures { result ≡ length self.now.methods }
+    {
+        self.methods.as_slice().len() as u32
+    }
 
-/// The method that the call at a pc of a method names. `None` where no call stands, and where no method is found.
-pub fn callee_at(program: &Program, method: MethodId, pc: u32) -> Option<MethodId>
-    ensures { result ≡ callee_at program.now method pc }
-{
-    let (operation, _) = operation_in(code_at(program, method)?, pc as usize)?;
-    callee_of(program, method, operation)
+    /// How many sites there are.
+    pub fn sites(&self) -> u32
+        requires { length self.now.sites < 2 ^ 32 }
+        ensures { result ≡ length self.now.sites }
+    {
+        self.sites.as_slice().len() as u32
+    }
+
+    pub fn class(&self, id: ClassId) -> &Class
+        requires { id < length self.now.classes }
+        ensures { slice_get self.now.classes id ≡ Some result.now }
+    {
+        &self.classes.as_slice()[id.number() as usize]
+    }
+
+    pub fn field(&self, id: FieldId) -> &Field
+        requires { id < length self.now.fields }
+        ensures { slice_get self.now.fields id ≡ Some result.now }
+    {
+        &self.fields.as_slice()[id.number() as usize]
+    }
+
+    pub fn method(&self, id: MethodId) -> &Method
+        requires { id < length self.now.methods }
+        ensures { slice_get self.now.methods id ≡ Some result.now }
+    {
+        &self.methods.as_slice()[id.number() as usize]
+    }
+
+    pub fn site(&self, id: SiteId) -> Site
+        requires { id < length self.now.sites }
+        ensures { slice_get self.now.sites id ≡ Some result }
+    {
+        self.sites.as_slice()[id.number() as usize]
+    }
+
+    /// The first method with that name and descriptor of the first class with that name.
+    pub fn find(&self, class: &[u8], name: &[u8], desc: &[u8]) -> Option<MethodId>
+        ensures { result ≡ method_named self.now class.now name.now desc.now }
+    {
+        let place = class_named(self, class)?;
+        let class = self.classes.as_slice().get(place)?;
+        first_with(self, name, desc, class.methods.as_slice())
+    }
+
+    /// The number of the allocation or call at that pc of a method, or of the exception of that class there. None where there is
+    /// none.
+    pub fn site_of(&self, method: MethodId, pc: u32, raised: Option<ClassId>) -> Option<SiteId>
+        requires { length self.now.sites < 2 ^ 32 }
+        ensures { result ≡ number_of self.now.sites method pc raised }
+    {
+        site_of(self.sites.as_slice(), method, pc, raised)
+    }
 }

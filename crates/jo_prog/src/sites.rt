@@ -1,7 +1,9 @@
 //! The places of a program at which objects are made, and its calls: one list that the program alone determines.
 
-ghost use Rattle.std.specs.Prelude.{◌≡◌, ◌≤◌, ◌<◌, ◌^◌, ◌++◌, length, OnOk, IfOk};
+ghost use Rattle.std.specs.Prelude.{◌≡◌, ◌≤◌, ◌<◌, ◌^◌, ◌++◌, true, false, length, OnOk, IfOk};
+ghost use Rattle.std.specs.List.Sorted.{IsPartitionPoint};
 ghost use Rattle.jo_prog.specs.Sites;
+ghost use Rattle.jo_prog.specs.SiteOrder.{comes_before, is_before, IsInOrder};
 ghost use Rattle.jo_prog.specs.Sites.{opcode_of, class_raised, may_raise, insns_in, made_at, raised_among, insn_sites, sites_among, sites_of_method, sites_of};
 
 use crate::lists::add;
@@ -121,7 +123,7 @@ pub fn may_raise(cause: Cause, op: u8) -> bool
 }
 
 /// The instructions from the first on, up to the first place where none stands: the end, in the code of a class file.
-fn instructions(alloc: Global, bytes: &[u8]) -> Result<List<Placed>, Memory>
+pub fn instructions(alloc: Global, bytes: &[u8]) -> Result<List<Placed>, Memory>
     requires { length bytes.now < 2 ^ 16 }
     ensures { IfOk result (λ insns. insns ≡ insns_in bytes.now) }
 {
@@ -242,39 +244,61 @@ fn is_raised(site: &Site, at: MethodId, place: u32, raised: ClassId) -> bool
     }
 }
 
-/// The number of the allocation or call at that pc of a method. None where there is none.
-pub fn site_made(sites: &[Site], method: MethodId, pc: u32) -> Option<SiteId>
-    requires { length sites.now ≤ 2 ^ 32 }
-    ensures { result ≡ Sites.site_of sites.now method pc None }
+/// Whether the site is the allocation or call at that pc, or the exception of that class there.
+fn is_site(site: &Site, at: MethodId, place: u32, raised: &Option<ClassId>) -> bool
+    ensures { result ≡ Sites.is_site at place raised.now site.now }
 {
-    for (number, site) in sites.iter().enumerate() {
-        if is_made(site, method, pc) {
-            return Some(Id::of(number as u32));
-        }
+    match raised {
+        None => is_made(site, at, place),
+        Some(class) => is_raised(site, at, place, *class),
     }
-    None
 }
 
-/// The number of the exception of that class at that pc of a method. None where there is none.
-pub fn site_raised(sites: &[Site], method: MethodId, pc: u32, class: ClassId) -> Option<SiteId>
-    requires { length sites.now ≤ 2 ^ 32 }
-    ensures { result ≡ Sites.site_of sites.now method pc (Some class) }
+fn comes_before(method: MethodId, pc: u32, at: MethodId, place: u64) -> bool
+    ensures { result ≡ comes_before at place method pc }
 {
-    for (number, site) in sites.iter().enumerate() {
-        if is_raised(site, method, pc, class) {
-            return Some(Id::of(number as u32));
-        }
+    method.number() < at.number() || method == at && u64::from(pc) < place
+}
+
+/// Whether the site stands before those of that pc.
+fn is_before(site: &Site, at: MethodId, place: u64) -> bool
+    ensures { result ≡ is_before at place site.now }
+{
+    match site {
+        Site::Text => true,
+        Site::Args => true,
+        Site::Alloc { method, pc } => comes_before(*method, *pc, at, place),
+        Site::Call { method, pc } => comes_before(*method, *pc, at, place),
+        Site::Raise { method, pc, .. } => comes_before(*method, *pc, at, place),
     }
-    None
+}
+
+/// How many sites stand before those of that pc.
+fn count_before(sites: &[Site], at: MethodId, place: u64) -> usize
+    requires { IsInOrder sites.now }
+    ensures bound { result ≤ length sites.now }
+    ensures point { IsPartitionPoint (λ site. is_before at place site ≡ true) (λ site. is_before at place site ≡ false) sites.now result }
+{
+    sites.partition_point(|site| is_before(site, at, place))
 }
 
 /// The number of the allocation or call at that pc of a method, or of the exception of that class there. None where there is none.
-pub fn site_of(sites: &[Site], method: MethodId, pc: u32, raised: Option<ClassId>) -> Option<SiteId>
-    requires { length sites.now ≤ 2 ^ 32 }
+pub(crate) fn site_of(
+    sites: &[Site],
+    method: MethodId,
+    pc: u32,
+    raised: Option<ClassId>,
+) -> Option<SiteId>
+    requires few { length sites.now < 2 ^ 32 }
+    requires order { IsInOrder sites.now }
     ensures { result ≡ Sites.site_of sites.now method pc raised }
 {
-    match raised {
-        None => site_made(sites, method, pc),
-        Some(class) => site_raised(sites, method, pc, class),
+    let first = count_before(sites, method, u64::from(pc));
+    let end = count_before(sites, method, u64::from(pc) + 1);
+    for number in first..end {
+        if is_site(&sites[number], method, pc, &raised) {
+            return Some(Id::of(number as u32));
+        }
     }
+    None
 }

@@ -8,6 +8,7 @@ use Rattle.class_pool.specs.declared.classes.ClassFile.{ClassFile}
 use Rattle.class_pool.specs.declared.classes.MethodInfo.{MethodInfo}
 use Rattle.class_pool.specs.declared.classes.CodeInfo.{CodeInfo}
 use Rattle.jo_prog.specs.Numbers.{count_from}
+use Rattle.jo_prog.specs.Program.{program_with}
 use Rattle.jo_prog.specs.PreludeClasses.{object_class}
 use Rattle.jo_prog.specs.declared.program.Program.{Program}
 use Rattle.jo_prog.specs.declared.program.Class.{Class}
@@ -61,4 +62,4 @@ this_class_of c = record {
 }
 
 unfoldable pub program_of : ClassFile → Program
-program_of c = record { classes = object_class ∷ this_class_of c ∷ []; fields = []; methods = map (method_of c.pool) c.methods }
+program_of c = program_with (object_class ∷ this_class_of c ∷ []) [] (map (method_of c.pool) c.methods)

@@ -184,9 +184,6 @@ pub fn link(alloc: Global, class: &ClassFile) -> Result<Program, Memory>
     let mut classes = List::new(alloc);
     add(&mut classes, object_class(alloc)?)?;
     add(&mut classes, this_class_of(alloc, class)?)?;
-    Ok(Program {
-        classes,
-        fields: List::new(alloc),
-        methods: methods_of(alloc, class.pool.as_slice(), class.methods.as_slice())?,
-    })
+    let methods = methods_of(alloc, class.pool.as_slice(), class.methods.as_slice())?;
+    Program::build(alloc, classes, List::new(alloc), methods)
 }

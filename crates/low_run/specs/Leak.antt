@@ -2,6 +2,7 @@
 use Rattle.std.specs.Prelude.{[], ◌∷◌, Some, codes}
 use Rattle.jo_prog.specs.declared.program.Program.{Program}
 use Rattle.jo_prog.specs.declared.program.Code.{Code}
+use Rattle.jo_prog.specs.Program.{program_with}
 use Rattle.jo_prog.specs.PreludeClasses.{object_class}
 use Rattle.jo_prog.specs.Worked.{native, worked_class}
 
@@ -15,9 +16,6 @@ leaking_code = record {
 }
 
 abbrev pub leaking_program : Program
-leaking_program = record {
-  classes = object_class ∷ worked_class ∷ [];
-  fields = [];
-  methods = native (codes "secret") (codes "()I") ∷ native (codes "get") (codes "()I") ∷ native (codes "show") (codes "(I)V")
-      ∷ record { class = 1; name = codes "main"; desc = codes "()V"; flags = 0x0008; code = Some leaking_code } ∷ [];
-}
+leaking_program = program_with (object_class ∷ worked_class ∷ []) []
+    (native (codes "secret") (codes "()I") ∷ native (codes "get") (codes "()I") ∷ native (codes "show") (codes "(I)V")
+    ∷ record { class = 1; name = codes "main"; desc = codes "()V"; flags = 0x0008; code = Some leaking_code } ∷ [])

@@ -1,6 +1,6 @@
 use Rattle.std.proofs.Common.{◌≡◌, ℕ, List, length, sym, ap, arith}
 use Rattle.jo_prog.proofs.Decoding.{next_of, operation_in-past, operation_in-long}
-use Rattle.jo_prog.proofs.program.operation_in.Goals as goal
+use Rattle.jo_prog.proofs.lookups.operation_in.Goals as goal
 
 pub returns-then-bytes-gt-LONGEST_CODE-clause-value : goal.returns-then-bytes-gt-LONGEST_CODE-clause-value
 returns-then-bytes-gt-LONGEST_CODE-clause-value c =

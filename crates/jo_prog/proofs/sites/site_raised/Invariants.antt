@@ -1,7 +1,0 @@
-use Rattle.std.proofs.Common.{◌≡◌, drop}
-use Rattle.std.specs.List.{position_from}
-use Rattle.jo_prog.specs.Sites.{is_raised}
-use Rattle.jo_prog.proofs.sites.site_raised.Given as goal
-
-abbrev pub invariant-loop-number : goal.invariant-loop-number
-invariant-loop-number l = position_from (is_raised l.method l.pc l.class) l.number (drop l.number l.sites) ≡ position_from (is_raised l.method l.pc l.class) 0 l.sites
