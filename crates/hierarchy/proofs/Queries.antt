@@ -1,5 +1,5 @@
 -- What the orders that a hierarchy keeps find is what the definitions find.
-use Rattle.std.proofs.Common.{◌≡◌, ◌∙◌, ◌↔◌, ℕ, suc, ◌≤◌, Bool, true, false, cond, ◌||◌, List, [], ◌∷◌, ◌++◌, length, Option, Some, None, refl, sym, ap, arith, inl, inr}
+use Rattle.std.proofs.Common.{◌≡◌, ◌∙◌, ◌↔◌, ℕ, suc, ◌<◌, ◌≤◌, Bool, true, false, cond, ◌||◌, List, [], ◌∷◌, ◌++◌, length, Option, Some, None, refl, sym, ap, arith, inl, inr}
 use Rattle.std.specs.Prelude.{◌==◌, is_some, option_and_then}
 use Rattle.std.specs.List.{Contains, flat_map, list_any}
 use Rattle.std.specs.Option.{option_or}
@@ -10,8 +10,9 @@ use Rattle.jo_prog.specs.declared.program.Program.{Program}
 use Rattle.jo_prog.specs.declared.program.Class.{Class}
 use Rattle.jo_prog.specs.Program.{class_at, first_with}
 use Rattle.jo_prog.specs.Walks.{walk, first_found}
-use Rattle.jo_prog.specs.Hierarchy.{superclass_in, interfaces_in, superclass_of, interfaces_of, parents_of, most_steps, first_field, unless_static, supertypes, is_subtype, superclasses, superinterfaces, own_method, own_field, own_instance_method, method_order, resolve_method, resolve_field, search_from}
+use Rattle.jo_prog.specs.Hierarchy.{superclass_in, interfaces_in, superclass_of, interfaces_of, parents_of, most_steps, first_field, unless_static, Subtype, supertypes, is_subtype, superclasses, superinterfaces, own_method, own_field, own_instance_method, method_order, resolve_method, resolve_field, search_from}
 use Rattle.jo_prog.proofs.WalkLemmas.{any_contains, contains_any}
+use Rattle.jo_prog.proofs.HierarchyLemmas.{subtype_along, subtype_every}
 use Rattle.hierarchy.specs.declared.Hierarchy.{Hierarchy}
 use Rattle.hierarchy.specs.Orders.{SameFirst, edges}
 use Rattle.hierarchy.specs.Hierarchies.{KeepsOrder, IsHierarchyOf}
@@ -126,6 +127,15 @@ module _ (program : Program) (hierarchy : Hierarchy) (is : IsHierarchyOf program
         ap (list_any (λ k. k == b)) (nothing_past hierarchy.supertypes.items (supertypes program) is.supertypes_kept past)
         ∙ sym (ne_eqb c b apart) ∙ is_itself program c (slice_get_past program.classes c past) b
   ]
+
+-- the order that is kept has exactly the class and those above it
+pub above_here : (program : Program) (hierarchy : Hierarchy) → IsHierarchyOf program hierarchy → (c : ℕ) → c < length program.classes → (b : ℕ)
+    → Contains (edges hierarchy.supertypes.items c) b ↔ Subtype program c b
+above_here program hierarchy is c there b =
+    let same = same_any (edges hierarchy.supertypes.items c) (supertypes program c) b (is.supertypes_kept.each c there) in (
+      λ among. subtype_along program c b (sym same ∙ contains_any (edges hierarchy.supertypes.items c) b among),
+      λ above. any_contains (edges hierarchy.supertypes.items c) b (same ∙ subtype_every program is.no_cycle c b above),
+    )
 
 pub subtype_itself : (program : Program) (c b : ℕ) → c ≡ b → true ≡ is_subtype program c b
 unfolding supertypes

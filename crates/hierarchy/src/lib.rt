@@ -1,8 +1,9 @@
 //! Superclasses and interfaces of a program: subtypes, and the members that classes resolve and select.
 #![tactic(auto)]
 
-ghost use Rattle.std.specs.Prelude.{◌≡◌, ◌<◌, ◌^◌, ◌++◌, ◌∷◌, length, map, IfOk, IfErr, OnOk};
-ghost use Rattle.jo_prog.specs.Hierarchy.{HasNoCycle, supertypes as supertypes_of, superclasses as superclasses_of, method_order, is_subtype, resolve_method, resolve_field, search_from, select as select_of, own_method as own_method_of, own_field as own_field_of, own_instance_method as own_instance_method_of};
+ghost use Rattle.std.specs.Prelude.{◌≡◌, ◌↔◌, ℕ, ◌<◌, ◌^◌, ◌++◌, ◌∷◌, length, map, IfOk, IfErr, OnOk};
+ghost use Rattle.std.specs.List.{Contains};
+ghost use Rattle.jo_prog.specs.Hierarchy.{HasNoCycle, Subtype, supertypes as supertypes_of, superclasses as superclasses_of, method_order, is_subtype, resolve_method, resolve_field, search_from, select as select_of, own_method as own_method_of, own_field as own_field_of, own_instance_method as own_instance_method_of};
 ghost use Rattle.jo_prog.specs.Calls.{special, takes};
 ghost use Rattle.jo_prog.specs.Walks.{first_found};
 ghost use Rattle.hierarchy.specs.Hierarchies.{HasItsParents, KeepsOrder, IsHierarchyOf, IsFaultOf, superclass_list, interface_list, parent_list};
@@ -275,6 +276,15 @@ impl Hierarchy {
             return true;
         }
         has_class(edges_at(self.supertypes.as_slice(), a.number()), b)
+    }
+
+    /// The class and all that are above it, each once.
+    pub fn supertypes(&self, program: &Program, class: ClassId) -> &[ClassId]
+        requires kept { IsHierarchyOf program.now self.now }
+        requires there { class < length program.now.classes }
+        ensures { (c : ℕ) → Contains result.now c ↔ Subtype program.now class c }
+    {
+        edges_at(self.supertypes.as_slice(), class.number())
     }
 
     /// The method that a class resolves.

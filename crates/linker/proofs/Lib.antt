@@ -2,3 +2,8 @@ mod Firsts
 mod NameLemmas
 mod CodeSteps
 mod PreludeLinks
+mod FirstLemmas
+mod SuperLemmas
+mod UseLemmas
+mod MemberLemmas
+mod BodyLemmas

@@ -2,3 +2,8 @@ pub mod Linking
 pub mod LinkFaults
 pub mod NeededClasses
 pub mod KnownNames
+pub mod FirstFaults
+pub mod SuperFaults
+pub mod UsedOperands
+pub mod MemberFaults
+pub mod BodyFaults

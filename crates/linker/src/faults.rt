@@ -8,7 +8,7 @@ use jo_ids::ClassId;
 use jo_insn::{ACC_STATIC, has_flag};
 
 /// An interface, not a class (4.1).
-const ACC_INTERFACE: u16 = 0x0200;
+pub(crate) const ACC_INTERFACE: u16 = 0x0200;
 
 fn some_code(methods: &[MethodInfo]) -> bool
     ensures { result ≡ list_any has_code methods.now }

@@ -1,12 +1,16 @@
 //! Makes the program of one class file.
 #![tactic(auto)]
 
+pub mod bodies;
 pub mod faults;
 pub mod laws;
+pub mod member_faults;
 pub mod names;
 pub mod needs;
+pub mod supers;
 #[cfg(test)]
 mod tests;
+pub mod uses;
 
 ghost use Rattle.std.specs.Prelude.{◌≡◌, ◌<◌, ◌^◌, ◌++◌, ◌∷◌, [], length, map, option_map, IfOk, OnOk};
 ghost use Rattle.class_pool.specs.Pool.{entry_at};
