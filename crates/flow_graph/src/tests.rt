@@ -147,13 +147,23 @@ fn object(alloc: Global) -> Result<Class, Memory>
     })
 }
 
-fn program(alloc: Global) -> Result<Program, Memory>
-    ensures { IfOk result (λ program. program ≡ worked_program) }
+fn classes(alloc: Global) -> Result<List<Class>, Memory>
+    ensures { IfOk result (λ classes. classes ≡ worked_program.classes) }
 {
     let mut classes = List::new(alloc);
     add(&mut classes, object(alloc)?)?;
     add(&mut classes, class(alloc)?)?;
-    Program::build(alloc, classes, List::new(alloc), methods(alloc)?)
+    Ok(classes)
+}
+
+fn program(alloc: Global) -> Result<Program, Memory>
+    ensures { IfOk result (λ program. program ≡ worked_program) }
+{
+    let classes = classes(alloc)?;
+    let fields = List::new(alloc);
+    let methods = methods(alloc)?;
+    let program = Program::build(alloc, classes, fields, methods)?;
+    Ok(program)
 }
 
 fn labels(alloc: Global) -> Result<Labels, Memory>
