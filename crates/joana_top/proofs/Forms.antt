@@ -21,7 +21,7 @@ use Rattle.jo_insn.specs.Instructions.{decoded}
 use Rattle.jo_prog.specs.declared.operations.Operation.{Operation}
 use Rattle.jo_prog.specs.declared.operations.Operation.TheVariants.{Return}
 use Rattle.jo_prog.specs.Program.{code_at, as_operation, operation_in, operation_at}
-use Rattle.linker.specs.Linking.{program_of, method_of, code_of}
+use Rattle.linker.specs.SingleClass.{program_of, method_of, code_of}
 use Rattle.jo_prog.specs.Typing.{IsTypedCode}
 use Rattle.jo_prog.specs.PlainCode.{IsWellLabelled, IsPlainProgram, IsPlainFrom, last, then}
 use Rattle.flow_graph.specs.Building.{HasShortCode}

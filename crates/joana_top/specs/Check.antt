@@ -18,7 +18,8 @@ use Rattle.jo_prog.specs.Program.{code_at, method_at}
 use Rattle.jo_prog.specs.PreludeClasses.{object_name, prelude_names}
 use Rattle.jo_prog.specs.PlainCode.{IsPlainFrom, IsPlainProgram}
 use Rattle.jo_prog.specs.Typing.{IsTyped}
-use Rattle.linker.specs.Linking.{program_of, this_name, super_name}
+use Rattle.linker.specs.Linking.{this_name, super_name}
+use Rattle.linker.specs.SingleClass.{program_of}
 use Rattle.jo_policy.specs.PolicyFile.{policy_of}
 use Rattle.dep_nodes.specs.Nodes.{Node}
 use Rattle.dep_nodes.specs.Chains.{Link}

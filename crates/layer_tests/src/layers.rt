@@ -10,7 +10,7 @@ use jo_prog::program::Program;
 use jo_prog::runner::run;
 use jo_prog::runs::{Event, Inputs, SourceInput, Trace};
 use jo_prog::spelling::push_method;
-use linker::link;
+use linker::single::link_one;
 use samples::worked_class;
 use std::alloc::Global;
 use std::process::Abort;
@@ -19,7 +19,7 @@ use std::test::Fail;
 // Main's methods are secret, get, show and main, in this order.
 fn program(alloc: Global) -> Result<Option<Program>, Memory> {
     match read_class(alloc, worked_class()) {
-        Ok(class) if class.methods.as_slice().len() == 4 => Ok(Some(link(alloc, &class)?)),
+        Ok(class) if class.methods.as_slice().len() == 4 => Ok(Some(link_one(alloc, &class)?)),
         _ => Ok(None),
     }
 }

@@ -1,7 +1,7 @@
 -- The names of classes: in a set in memory, and among those of earlier classes.
 use Rattle.std.proofs.Common.{◌≡◌, ◌↔◌, ◌<◌, ◌≤◌, ◌+◌, ℕ, Option, None, get_or, arith, Bool, true, false, List, [], ◌∷◌, ◌++◌, map, take, length, Some, refl, sym, subst, ap, ◌∙◌, Contains, Vec, Global}
-use Rattle.std.specs.Prelude.{if◌then◌else◌, slice_get}
-use Rattle.std.specs.List.{list_any}
+use Rattle.std.specs.Prelude.{if◌then◌else◌, position, slice_get}
+use Rattle.std.specs.List.{list_any, position_from}
 use Rattle.std.specs.Option.{IsSomeAnd}
 use Rattle.std.specs.Str.{bytes_eq}
 use Rattle.std.proofs.lemmas.Cmp.{nat_list_eq_equiv}
@@ -11,7 +11,8 @@ use Rattle.std.proofs.lemmas.Option.{slice_get-map, slice_get_within, get_or_fro
 use Rattle.std.proofs.lemmas.Slice.Eq.{bytes_eq-Decides}
 use Rattle.indexmap.specs.IndexSet.{insert_key}
 use Rattle.class_pool.specs.declared.classes.ClassFile.{ClassFile}
-use Rattle.linker.specs.Linking.{this_name}
+use Rattle.std.proofs.lemmas.Iterator.Adapters.{position_from-zero}
+use Rattle.linker.specs.Linking.{this_name, number_of}
 use Rattle.linker.specs.LinkFaults.{class_names, IsTwiceDefined}
 use Rattle.linker.specs.KnownNames.{text_in}
 
@@ -84,3 +85,13 @@ none_twice classes count names past is once k twice =
     let among : IsTwiceDefined (class_names classes) k = subst (λ ns. IsTwiceDefined ns k) all twice in
     let within : k < length (class_names classes) = below (class_names classes) k among in
     once k (omega (arith, within, past, length-map classes this_name)) among
+
+-- ---- the place of a name
+
+pub place_named : (keys : List (Vec ℕ Global)) (name : List ℕ) (k : ℕ) → position_from (λ key. bytes_eq name key.items) k keys ≡ position_from (bytes_eq name) k (map text_in keys)
+place_named [] name k = refl
+place_named (key ∷ keys) name k = rw (place_named keys name (k + 1)) refl
+
+pub is_place : (keys : List (Vec ℕ Global)) (name : List ℕ) → position (λ key. bytes_eq name key.items) keys ≡ number_of (map text_in keys) name
+is_place keys name =
+    position_from-zero (λ key. bytes_eq name key.items) keys ∙ place_named keys name 0 ∙ sym (position_from-zero (bytes_eq name) (map text_in keys))

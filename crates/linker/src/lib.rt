@@ -1,189 +1,274 @@
-//! Makes the program of one class file.
+//! Makes the program of class files.
 #![tactic(auto)]
 
 pub mod bodies;
+pub mod causes;
 pub mod faults;
 pub mod laws;
 pub mod member_faults;
 pub mod names;
 pub mod needs;
+mod operands;
+mod programs;
+pub mod single;
 pub mod supers;
 #[cfg(test)]
 mod tests;
+mod texts;
+mod used;
 pub mod uses;
 
-ghost use Rattle.std.specs.Prelude.{◌≡◌, ◌<◌, ◌^◌, ◌++◌, ◌∷◌, [], length, map, option_map, IfOk, OnOk};
-ghost use Rattle.class_pool.specs.Pool.{entry_at};
-ghost use Rattle.jo_prog.specs.declared.program.Operand.TheVariants.{Unused};
-ghost use Rattle.jo_prog.specs.Numbers.{count_from};
-ghost use Rattle.jo_prog.specs.PreludeClasses.{object_class};
-ghost use Rattle.linker.specs.Linking.{text_at, member_named, operand_of, code_of, method_of, this_class_of, program_of};
+ghost use Rattle.std.specs.Prelude.{◌≡◌, ℕ, ◌<◌, ◌^◌, length, IfOk, IfErr, OnOk};
+ghost use Rattle.hierarchy.specs.Hierarchies.{HasItsParents, IsHierarchyOf};
+ghost use Rattle.hierarchy.specs.Resolutions.{AreResolutionsOf};
+ghost use Rattle.linker.specs.SuperFaults.{IsCyclicSuper};
+ghost use Rattle.linker.specs.MemberFaults.{LacksMember};
+ghost use Rattle.jo_prog.specs.Program.{HasNumbers};
+ghost use Rattle.linker.specs.Linking.{program_among, linked_classes, program_of};
+ghost use Rattle.linker.specs.LinkFaults.{class_names, IsTwiceDefined};
+ghost use Rattle.linker.specs.LinkOrder.{HasNoneBefore, HasNoFault, HasNoProgramFault, IsToldOf, IsProgramAnswer, IsNamed, IsLinkFault, IsLinkAnswer};
+ghost use Rattle.linker.specs.declared.causes.LinkFault.{LinkFault};
 
-use class_pool::{ClassFile, CodeInfo, MethodInfo, PoolEntry, class_name_at, entry_at, utf8_at};
-use jo_ids::{ClassId, List, Memory, MethodId};
+use crate::bodies::not_implemented;
+use crate::causes::LinkCause;
+use crate::faults::{interface_body, static_init};
+use crate::member_faults::missing_member;
+use crate::names::{ClassNames, TwiceDefined, name_of, names_of};
+use crate::needs::missing_class;
+use crate::programs::program_among;
+use crate::supers::cyclic_super;
+use crate::texts::named;
+pub use causes::{LinkCode, LinkFault};
+use class_pool::ClassFile;
+use hierarchy::resolutions::Resolutions;
+use hierarchy::{Hierarchy, HierarchyFault};
+use jo_ids::{ClassId, List, Memory};
 use jo_prog::lists::add;
-use jo_prog::program::{Class, Code, MemberRef, Method, Operand, Program, TypeRef};
+use jo_prog::program::Program;
 use jo_text::Name;
-use std::alloc::Global;
+use std::alloc::{AllocError, Global};
 
-fn named(alloc: Global, bytes: &[u8]) -> Result<Name, Memory>
-    ensures { IfOk result (λ name. name ≡ bytes.now) }
+/// The prelude's classes, and then those of the files.
+fn linked_classes(alloc: Global, files: Vec<ClassFile>) -> Result<List<ClassFile>, Memory>
+    ensures { IfOk result (λ classes. classes ≡ linked_classes files.items) }
 {
-    let mut name = Name::new(alloc);
-    name.append(bytes)?;
-    Ok(name)
+    let mut classes = prelude::classes(alloc)?;
+    for file in files {
+        add(&mut classes, file)?;
+    }
+    Ok(classes)
 }
 
-/// The text of the Utf8 entry with that index, or none.
-fn text_at(alloc: Global, pool: &[PoolEntry], index: u16) -> Result<Name, Memory>
-    ensures { IfOk result (λ name. name ≡ text_at pool.now index) }
+fn no_memory() -> LinkCause
+    ensures { result.code ≡ LinkCode.Memory }
 {
-    match utf8_at(pool, index) {
-        Some(text) => named(alloc, text),
-        None => Ok(Name::new(alloc)),
+    LinkCause {
+        code: LinkCode::Memory,
+        class: ClassId::of(0),
     }
 }
 
-/// The member that the NameAndType entry with that index names, in the file's class.
-fn member_named(alloc: Global, pool: &[PoolEntry], index: u16) -> Result<Operand, Memory>
-    ensures { IfOk result (λ operand. operand ≡ member_named pool.now (entry_at pool.now index)) }
+/// Whether each class is there that one of them needs.
+fn check_needs(names: &ClassNames, classes: &[ClassFile]) -> Result<(), LinkCause>
+    requires few { length classes.now < 2 ^ 32 }
+    requires names { names.now ≡ class_names classes.now }
+    requires once { (k : ℕ) → IsTwiceDefined names.now k → ⊥ }
+    ensures none { OnOk result (HasNoneBefore classes.now 3) }
+    ensures fault { IfErr result (λ cause. IsToldOf classes.now cause.code cause.class) }
 {
-    match entry_at(pool, index) {
-        Some(PoolEntry::NameAndType(name, desc)) => Ok(Operand::Member(MemberRef {
-            owner: TypeRef::Class(ClassId::of(1)),
-            name: text_at(alloc, pool, *name)?,
-            desc: text_at(alloc, pool, *desc)?,
-        })),
-        _ => Ok(Operand::Unused),
+    match missing_class(names, classes) {
+        None => Ok(()),
+        Some(class) => Err(LinkCause {
+            code: LinkCode::MissingClass,
+            class,
+        }),
     }
 }
 
-fn operand_of(
+/// Whether each call of a program finds a body, and each object can have its class.
+fn check_calls(
     alloc: Global,
-    pool: &[PoolEntry],
-    this: &[u8],
-    entry: &PoolEntry,
-) -> Result<Operand, Memory>
-    ensures { IfOk result (λ operand. operand ≡ operand_of pool.now this.now entry.now) }
+    program: &Program,
+    hierarchy: &Hierarchy,
+    resolutions: &Resolutions,
+) -> Result<(), LinkCause>
+    requires short { length program.now.classes < 2 ^ 32 }
+    requires kept { IsHierarchyOf program.now hierarchy.now }
+    requires resolved { AreResolutionsOf program.now resolutions.now }
+    requires supers { (c : ℕ) → IsCyclicSuper program.now c → ⊥ }
+    requires members { (c : ℕ) → LacksMember program.now c → ⊥ }
+    ensures none { OnOk result (HasNoProgramFault program.now) }
+    ensures fault { IfErr result (λ cause. IsProgramAnswer program.now cause.code cause.class) }
 {
-    match entry {
-        PoolEntry::MethodRef(class, member) => match class_name_at(pool, *class) {
-            Some(name) if name == this => member_named(alloc, pool, *member),
-            _ => Ok(Operand::Unused),
+    match not_implemented(alloc, program, hierarchy, resolutions) {
+        Ok(None) => Ok(()),
+        Ok(Some(class)) => Err(LinkCause {
+            code: LinkCode::NotImplemented,
+            class,
+        }),
+        Err(_) => Err(no_memory()),
+    }
+}
+
+/// Whether instructions take what is there.
+fn check_members(alloc: Global, program: &Program, hierarchy: &Hierarchy) -> Result<(), LinkCause>
+    requires short { length program.now.classes < 2 ^ 32 }
+    requires kept { IsHierarchyOf program.now hierarchy.now }
+    requires supers { (c : ℕ) → IsCyclicSuper program.now c → ⊥ }
+    ensures none { OnOk result (HasNoProgramFault program.now) }
+    ensures fault { IfErr result (λ cause. IsProgramAnswer program.now cause.code cause.class) }
+{
+    let Ok(resolutions) = Resolutions::build(alloc, program, hierarchy) else {
+        return Err(no_memory());
+    };
+    match missing_member(alloc, program, &resolutions) {
+        Ok(None) => check_calls(alloc, program, hierarchy, &resolutions),
+        Ok(Some(class)) => Err(LinkCause {
+            code: LinkCode::MissingMember,
+            class,
+        }),
+        Err(_) => Err(no_memory()),
+    }
+}
+
+/// Whether classes of a program stand where they may, and take what is there.
+fn check_program(alloc: Global, program: &Program) -> Result<(), LinkCause>
+    requires short { length program.now.classes < 2 ^ 32 }
+    requires there { HasItsParents program.now }
+    ensures none { OnOk result (HasNoProgramFault program.now) }
+    ensures fault { IfErr result (λ cause. IsProgramAnswer program.now cause.code cause.class) }
+{
+    let built = cyclic_super(alloc, program);
+    match &built {
+        Ok(hierarchy) => check_members(alloc, program, hierarchy),
+        Err(HierarchyFault::Cyclic(class)) => Err(LinkCause {
+            code: LinkCode::CyclicSuper,
+            class: *class,
+        }),
+        Err(HierarchyFault::Memory) => Err(no_memory()),
+    }
+}
+
+/// Whether the classes have neither bodies of interfaces nor class initializers.
+fn check_bodies(classes: &[ClassFile]) -> Result<(), LinkCause>
+    requires few { length classes.now < 2 ^ 32 }
+    requires none { HasNoneBefore classes.now 6 }
+    ensures none { OnOk result (HasNoFault classes.now) }
+    ensures fault { IfErr result (λ cause. IsToldOf classes.now cause.code cause.class) }
+{
+    match interface_body(classes) {
+        None => (),
+        Some(class) => {
+            return Err(LinkCause {
+                code: LinkCode::InterfaceBody,
+                class,
+            });
+        }
+    }
+    match static_init(classes) {
+        None => Ok(()),
+        Some(class) => Err(LinkCause {
+            code: LinkCode::StaticInit,
+            class,
+        }),
+    }
+}
+
+/// The program of these classes, of which each has another name.
+fn checked_program(
+    alloc: Global,
+    names: &ClassNames,
+    classes: &[ClassFile],
+) -> Result<Program, LinkCause>
+    requires few { length classes.now < 2 ^ 32 }
+    requires names { names.now ≡ class_names classes.now }
+    requires once { (k : ℕ) → IsTwiceDefined names.now k → ⊥ }
+    ensures program { IfOk result (λ program. program ≡ program_among classes.now) }
+    ensures numbers { IfOk result HasNumbers }
+    ensures none { IfOk result (λ _. HasNoFault classes.now) }
+    ensures fault { IfErr result (λ cause. IsToldOf classes.now cause.code cause.class) }
+{
+    match check_needs(names, classes) {
+        Ok(()) => (),
+        Err(cause) => return Err(cause),
+    }
+    let Ok(program) = program_among(alloc, names, classes) else {
+        return Err(no_memory());
+    };
+    match check_program(alloc, &program) {
+        Ok(()) => (),
+        Err(cause) => return Err(cause),
+    }
+    match check_bodies(classes) {
+        Ok(()) => Ok(program),
+        Err(cause) => Err(cause),
+    }
+}
+
+/// The program of these classes.
+fn whole_program(alloc: Global, classes: &[ClassFile]) -> Result<Program, LinkCause>
+    requires { length classes.now < 2 ^ 32 }
+    ensures program { IfOk result (λ program. program ≡ program_among classes.now) }
+    ensures numbers { IfOk result HasNumbers }
+    ensures none { IfOk result (λ _. HasNoFault classes.now) }
+    ensures fault { IfErr result (λ cause. IsToldOf classes.now cause.code cause.class) }
+{
+    let named = names_of(alloc, classes);
+    match &named {
+        Ok(names) => checked_program(alloc, names, classes),
+        Err(TwiceDefined::Of(class)) => Err(LinkCause {
+            code: LinkCode::TwiceDefined,
+            class: *class,
+        }),
+        Err(TwiceDefined::Memory) => Err(no_memory()),
+    }
+}
+
+fn nameless(alloc: Global) -> LinkFault
+    ensures { result.code ≡ LinkCode.Memory }
+{
+    LinkFault {
+        code: LinkCode::Memory,
+        class: ClassId::of(0),
+        name: Name::new(alloc),
+    }
+}
+
+/// The fault with the name of its class.
+fn with_name(alloc: Global, classes: &[ClassFile], cause: LinkCause) -> LinkFault
+    ensures { IsNamed classes.now cause.code cause.class result }
+{
+    let Some(class) = classes.get(cause.class.number() as usize) else {
+        return nameless(alloc);
+    };
+    match named(alloc, name_of(class)) {
+        Ok(name) => LinkFault {
+            code: cause.code,
+            class: cause.class,
+            name,
         },
-        _ => Ok(Operand::Unused),
+        Err(_) => nameless(alloc),
     }
 }
 
-/// The operands at their pool index, of which 0 is none.
-fn operands_of(alloc: Global, pool: &[PoolEntry], this: &[u8]) -> Result<List<Operand>, Memory>
-    ensures { IfOk result (λ operands. operands ≡ Unused ∷ map (operand_of pool.now this.now) pool.now) }
+/// The program of the files' classes, behind those of the prelude. The files are given up in either case. Where there are 2^32
+/// classes, fields, methods or sites or more, memory is said to be wanting.
+pub fn link(alloc: Global, files: Vec<ClassFile>) -> Result<Program, LinkFault>
+    ensures program { IfOk result (λ program. program ≡ program_of files.items) }
+    ensures numbers { IfOk result HasNumbers }
+    ensures whole { IfOk result (λ _. HasNoFault (linked_classes files.items)) }
+    ensures none { IfOk result (λ _. (fault : LinkFault) → IsLinkFault files.items fault → ⊥) }
+    ensures fault { IfErr result (IsLinkAnswer files.items) }
 {
-    let mut operands = List::new(alloc);
-    add(&mut operands, Operand::Unused)?;
-    for entry in pool {
-        add(&mut operands, operand_of(alloc, pool, this, entry)?)?;
+    let Ok(classes) = linked_classes(alloc, files) else {
+        return Err(nameless(alloc));
+    };
+    let classes = classes.as_slice();
+    if classes.len() > u32::MAX as usize {
+        return Err(nameless(alloc));
     }
-    Ok(operands)
-}
-
-fn code_of(alloc: Global, code: &CodeInfo) -> Result<Code, Memory>
-    ensures { IfOk result (λ made. made ≡ code_of code.now) }
-{
-    Ok(Code {
-        max_stack: code.max_stack,
-        max_locals: code.max_locals,
-        bytes: named(alloc, code.bytes.as_slice())?,
-        rows: List::new(alloc),
-    })
-}
-
-fn body_of(alloc: Global, code: &Option<CodeInfo>) -> Result<Option<Code>, Memory>
-    ensures { IfOk result (λ made. made ≡ option_map code_of code.now) }
-{
-    match code {
-        Some(code) => Ok(Some(code_of(alloc, code)?)),
-        None => Ok(None),
+    match whole_program(alloc, classes) {
+        Ok(program) => Ok(program),
+        Err(cause) => Err(with_name(alloc, classes, cause)),
     }
-}
-
-fn method_of(alloc: Global, pool: &[PoolEntry], method: &MethodInfo) -> Result<Method, Memory>
-    ensures { IfOk result (λ made. made ≡ method_of pool.now method.now) }
-{
-    Ok(Method {
-        class: ClassId::of(1),
-        name: text_at(alloc, pool, method.name)?,
-        desc: text_at(alloc, pool, method.desc)?,
-        flags: method.flags,
-        code: body_of(alloc, &method.code)?,
-    })
-}
-
-fn methods_of(
-    alloc: Global,
-    pool: &[PoolEntry],
-    methods: &[MethodInfo],
-) -> Result<List<Method>, Memory>
-    ensures { IfOk result (λ made. made ≡ map (method_of pool.now) methods.now) }
-{
-    let mut made = List::new(alloc);
-    for method in methods {
-        add(&mut made, method_of(alloc, pool, method)?)?;
-    }
-    Ok(made)
-}
-
-/// The numbers below a count.
-fn numbers_below(alloc: Global, count: u32) -> Result<List<MethodId>, Memory>
-    ensures { IfOk result (λ numbers. numbers ≡ count_from 0 count) }
-{
-    let mut numbers = List::new(alloc);
-    for number in 0..count {
-        add(&mut numbers, MethodId::of(number))?;
-    }
-    Ok(numbers)
-}
-
-fn object_class(alloc: Global) -> Result<Class, Memory>
-    ensures { IfOk result (λ class. class ≡ object_class) }
-{
-    Ok(Class {
-        name: named(alloc, b"java/lang/Object")?,
-        flags: 0x0021,
-        superclass: None,
-        interfaces: List::new(alloc),
-        fields: List::new(alloc),
-        methods: List::new(alloc),
-        operands: List::new(alloc),
-    })
-}
-
-fn this_class_of(alloc: Global, class: &ClassFile) -> Result<Class, Memory>
-    requires { length class.now.methods < 2 ^ 32 }
-    ensures { IfOk result (λ made. made ≡ this_class_of class.now) }
-{
-    let pool = class.pool.as_slice();
-    let this = class_name_at(pool, class.this_class).unwrap_or(b"");
-    Ok(Class {
-        name: named(alloc, this)?,
-        flags: class.flags,
-        superclass: Some(ClassId::of(0)),
-        interfaces: List::new(alloc),
-        fields: List::new(alloc),
-        methods: numbers_below(alloc, class.methods.as_slice().len() as u32)?,
-        operands: operands_of(alloc, pool, this)?,
-    })
-}
-
-/// The program of the class: `java/lang/Object` without members, which has the number 0, and the class itself.
-#[tactic(auto, unfolding(crate::specs::Linking::program_of))]
-pub fn link(alloc: Global, class: &ClassFile) -> Result<Program, Memory>
-    requires { length class.now.methods < 2 ^ 32 }
-    ensures { IfOk result (λ program. program ≡ program_of class.now) }
-{
-    let mut classes = List::new(alloc);
-    add(&mut classes, object_class(alloc)?)?;
-    add(&mut classes, this_class_of(alloc, class)?)?;
-    let methods = methods_of(alloc, class.pool.as_slice(), class.methods.as_slice())?;
-    Program::build(alloc, classes, List::new(alloc), methods)
 }

@@ -3,7 +3,7 @@ ghost use Rattle.std.specs.Prelude.{◌≡◌, ◌↔◌, ◌<◌, ◌^◌, ◌+
 ghost use Rattle.std.specs.List.{Contains};
 ghost use Rattle.std.specs.Str.{bytes_eq};
 ghost use Rattle.linker.specs.LinkFaults.{class_names, is_known, IsTwiceDefined};
-ghost use Rattle.linker.specs.Linking.{this_name};
+ghost use Rattle.linker.specs.Linking.{this_name, number_of};
 ghost use Rattle.linker.specs.KnownNames.{IsTwiceFault};
 
 use class_pool::{ClassFile, class_name_at};
@@ -62,6 +62,17 @@ impl ClassNames {
         ensures there { IsTrue result ↔ Contains self.now name.now }
     {
         self.names.contains(name)
+    }
+
+    /// The number of the class with this name.
+    pub fn number_of(&self, name: &[u8]) -> Option<ClassId>
+        requires { length self.now < 2 ^ 32 }
+        ensures { result ≡ number_of self.now name.now }
+    {
+        match self.names.get_index_of(name) {
+            Some(place) => Some(ClassId::of(place as u32)),
+            None => None,
+        }
     }
 
     /// Adds a name that isn't there.

@@ -25,7 +25,7 @@ use jo_prog::program::{Method, Program};
 use joana_base::{
     Answer, InputFault, ProgramFiles, ProgramNames, Refusal, Stop, classes_of, read_program,
 };
-use linker::link;
+use linker::single::link_one;
 use low_run::refusal;
 use std::alloc::{AllocError as Memory, Global};
 
@@ -141,7 +141,7 @@ fn program_of(alloc: Global, class: &ClassFile) -> Result<Option<Program>, Memor
     if !is_under_object(class) {
         return Ok(None);
     }
-    match link(alloc, class) {
+    match link_one(alloc, class) {
         Ok(program) => Ok(Some(program)),
         Err(memory) => Err(memory),
     }

@@ -17,7 +17,7 @@ loop-operation-init c =
     (subst (λ n. IsStart c.in_ok-builder.builder takes c.args.labels.now.entry n plain.code.max_stack) sizes.0
     (subst (λ n. IsStart c.in_ok-builder.builder takes c.args.labels.now.entry c.sizes_of-max_locals.result.0 n) sizes.1
     (subst (λ has. IsStart c.in_ok-builder.builder has c.args.labels.now.entry c.sizes_of-max_locals.result.0 c.sizes_of-max_locals.result.1)
-        c.takes_arguments-has_arguments.ensures c.in_ok-builder.ensures)))
+    c.takes_arguments-has_arguments.ensures c.in_ok-builder.ensures)))
 
 pub add_call-requires-clause-place : goal.add_call-requires-clause-place
 add_call-requires-clause-place c = λ s named source.
