@@ -1,10 +1,10 @@
 -- The laws of plain code, from the definitions of the machine, of typing and of the dependence graph.
-use Rattle.std.proofs.Common.{◌≡◌, inl, inr, ℕ, zero, suc, ◌+◌, ◌-◌, ◌%◌, ℤ, true, false, List, [], ◌∷◌, length, replicate, Option, Some, None, Contains, refl, sym, ap, subst, ◌∙◌, arith}
+use Rattle.std.proofs.Common.{◌≡◌, inl, inr, ℕ, zero, suc, ◌+◌, ◌-◌, ◌%◌, ℤ, Bool, true, false, List, [], ◌∷◌, length, replicate, Option, Some, None, Contains, refl, sym, ap, subst, ◌∙◌, arith}
 use Rattle.std.specs.Prelude.{pos, IsSome, is_some, slice_get, slice_set, slice_index, codes}
 use Rattle.std.specs.List.{AllByRecursion}
 use Rattle.std.specs.Str.{bytes_eq}
 use Rattle.std.proofs.lemmas.Bool.{false≢true}
-use Rattle.std.proofs.lemmas.List.{length-replicate}
+use Rattle.std.proofs.lemmas.List.{length-replicate, length-set}
 use Rattle.std.proofs.lemmas.Option.{none-some, same_Some}
 use Rattle.jo_prog.specs.declared.operations.Operation.{Operation}
 use Rattle.jo_prog.specs.declared.operations.Operation.TheVariants.{Constant, Load, Store as StoreTo, Add, Subtract, InvokeStatic, Return, Other}
@@ -21,7 +21,7 @@ use Rattle.jo_prog.specs.PlainCode.{IsLabelledNative, IsEntry, IsPlainProgram, g
 use Rattle.jo_prog.specs.Running.{with_thread}
 use Rattle.jo_prog.specs.Runs.{unmoved, advanced, enabled, all_ended, sink_level}
 use Rattle.jo_prog.specs.Typing.{Kind, Int, Null, Ref, Unset, Shape, shape_at_start, with_stack, exchange_by, shape_after, Arrives, at_start, HasHeight}
-use Rattle.jo_prog.specs.Values.{Value, int}
+use Rattle.jo_prog.specs.Values.{Value, int, ref}
 use Rattle.jo_prog.specs.Constants.{takes_arguments, arguments_address}
 use Rattle.jo_prog.specs.Machine.{State, Stepped, info_at, execute, silent, input_at, called, after_call, call_native, step_operation, step, first_locals, first_frame, start}
 use Rattle.dependence.specs.declared.flow.Place.{Place}
@@ -54,9 +54,10 @@ first_of_one : (j : ℕ) → slice_index (0 ∷ []) j ≡ 0
 first_of_one zero = refl
 first_of_one (suc j) = refl
 
--- the entry of plain code takes no array
-takes_none : (program : Program) (m : ℕ) → IsEntry program m → takes_arguments (method_at program m) ≡ false
-takes_none program m entry = ap takes_arguments entry.found ∙ ap (λ desc. bytes_eq desc (codes "([Ljava/lang/String;)V")) entry.shape
+-- whether the entry takes an array or not, it has so many locals at the start
+first_count : (takes : Bool) (count address : ℕ) → length (first_locals takes count address) ≡ count
+first_count false count address = length-replicate count None
+first_count true count address = length-set (replicate count None) 0 (Some (ref address)) ∙ length-replicate count None
 
 no_int_unset : (n k : ℕ) → slice_get (replicate n Unset) k ≡ Some Int → ⊥
 no_int_unset zero k e = none-some Int e
@@ -487,12 +488,11 @@ module _ (program : Program) (labels : Labels) (plain : IsPlainProgram program l
 
   first_standing : Standing first_spot no_ints (replicate (length program.methods) 0) (start program labels)
   first_standing = record {
-    locals = replicate code.max_locals None;
+    locals = first_locals (takes_arguments (method_at program m)) code.max_locals (arguments_address program);
     stack = [];
-    is = ap (λ o. with_thread program labels (replicate (length program.methods) 0) (first_frame program m o)) plain.found
-        ∙ ap (λ b. with_thread program labels (replicate (length program.methods) 0) (frame_at m 0 (first_locals b code.max_locals (arguments_address program)) [] ∷ [])) (takes_none program m plain.well_labelled.entry);
+    is = ap (λ o. with_thread program labels (replicate (length program.methods) 0) (first_frame program m o)) plain.found;
     locals_hold = record {
-      count = length-replicate code.max_locals None ∙ sym (length-replicate code.max_locals Unset);
+      count = first_count (takes_arguments (method_at program m)) code.max_locals (arguments_address program) ∙ sym (length-replicate code.max_locals Unset);
       each = λ k is. absurd (no_int_unset code.max_locals k is);
     };
     stack_holds = empty;
