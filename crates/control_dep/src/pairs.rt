@@ -56,12 +56,7 @@ fn branches(successors: &[u32]) -> bool
 }
 
 /// Adds the pairs of a branching node with what was found behind it.
-fn add_controlled(
-    flow: &Flow,
-    b: u32,
-    found: &BitRow,
-    pairs: &mut Controls,
-) -> Result<(), Memory>
+fn add_controlled(flow: &Flow, b: u32, found: &BitRow, pairs: &mut Controls) -> Result<(), Memory>
     requires found { AreControlled flow.now b found.now }
     ensures { OnOk result (AddsPairsFrom flow.now b pairs.old pairs.new) }
 {

@@ -89,7 +89,11 @@ fn a_definition_is_killed_on_one_of_two_ways(rt: HostRuntime) -> Result<(), Fail
     let reads = [(3, local), (4, local), (4, Place::Pending)];
     let writes = [(0, local), (1, local), (3, local)];
     let flow = flow_of(rt.alloc(), 5, &edges, &reads, &writes)?;
-    let expected = [use_at(3, local, 0), use_at(3, local, 1), use_at(4, local, 3)];
+    let expected = [
+        use_at(3, local, 0),
+        use_at(3, local, 1),
+        use_at(4, local, 3),
+    ];
     let uses = sources(rt.alloc(), &flow)?;
     assert!(rt; uses.as_slice() == expected.as_slice());
     Ok(())
