@@ -4,3 +4,6 @@ pub mod SearchState
 pub mod SearchPaths
 pub mod SearchSteps
 pub mod SearchEnds
+pub mod SizeLemmas
+pub mod DescriptorReads
+pub mod MarkLemmas

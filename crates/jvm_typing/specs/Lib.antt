@@ -1,1 +1,5 @@
 pub mod Searches
+pub mod Sizes
+pub mod Subjects
+pub mod Marks
+pub mod Spots

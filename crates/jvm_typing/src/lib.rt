@@ -4,3 +4,7 @@
 #![tactic(auto)]
 
 pub mod laws;
+mod marks;
+mod sizes;
+mod spots;
+mod subjects;

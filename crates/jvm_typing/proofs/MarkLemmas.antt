@@ -1,0 +1,2 @@
+-- Marks.
+use Rattle.std.proofs.Common.{◌≡◌}
