@@ -186,9 +186,9 @@ written program s (Some (k, origin)) = slice_set s.locals k (kind_from program s
 -- the shape after an instruction, also where a place didn't have what it was asked for
 abbrev pub after : Program → Effect → Shape → Shape
 after program effect s = record {
-    locals = written program s effect.writes;
-    stack = map (kind_from program s) effect.pushes ++ drop (length effect.pops) s.stack
-  }
+  locals = written program s effect.writes;
+  stack = map (kind_from program s) effect.pushes ++ drop (length effect.pops) s.stack;
+}
 
 -- each place that is there has what it is asked for
 abbrev pub all_pass : Program → List Need → List Kind → Bool

@@ -89,15 +89,15 @@ strictly_prolonged s t p q (by_less e h) = by_less (ap suc e) (inl h)
 -- to the same pc, and to a handler only where the other does
 pub same_prolonged : (s t : Step) (p q : List Step) → s.pc ≡ t.pc → IsPlainAlone (to_handler s) (to_handler t) ⊎ (to_handler s ≡ to_handler t) → SamePcs p q → SamePcs (s ∷ p) (t ∷ q)
 same_prolonged s t p q e f h = record {
-    pcs = ap (λ n. n ∷ pcs_of p) e ∙ ap (λ l. t.pc ∷ l) h.pcs;
-    rows = more h.rows f
-  }
- where
-  more : IsLess IsPlainAlone (handlers_of p) (handlers_of q) ⊎ (handlers_of p ≡ handlers_of q) → IsPlainAlone (to_handler s) (to_handler t) ⊎ (to_handler s ≡ to_handler t)
-      → IsLess IsPlainAlone (handlers_of (s ∷ p)) (handlers_of (t ∷ q)) ⊎ (handlers_of (s ∷ p) ≡ handlers_of (t ∷ q))
-  more (inl k) g = inl (inl k)
-  more (inr k) (inl g) = inl (inr (k, g))
-  more (inr k) (inr g) = inr (ap (λ b. b ∷ handlers_of p) g ∙ ap (λ l. to_handler t ∷ l) k)
+  pcs = ap (λ n. n ∷ pcs_of p) e ∙ ap (λ l. t.pc ∷ l) h.pcs;
+  rows = more h.rows f;
+}
+  where
+    more : IsLess IsPlainAlone (handlers_of p) (handlers_of q) ⊎ (handlers_of p ≡ handlers_of q) → IsPlainAlone (to_handler s) (to_handler t) ⊎ (to_handler s ≡ to_handler t)
+        → IsLess IsPlainAlone (handlers_of (s ∷ p)) (handlers_of (t ∷ q)) ⊎ (handlers_of (s ∷ p) ≡ handlers_of (t ∷ q))
+    more (inl k) g = inl (inl k)
+    more (inr k) (inl g) = inl (inr (k, g))
+    more (inr k) (inr g) = inr (ap (λ b. b ∷ handlers_of p) g ∙ ap (λ l. to_handler t ∷ l) k)
 
 -- ---- against the order of the definition
 
@@ -111,10 +111,10 @@ not_before p q (inl (by_less e h)) (by_rows f k) = less_than_none ◌<◌ pcs_ne
 not_before p q (inr h) (shorter k) = let e = same_length p q h.pcs in omega arith
 not_before p q (inr h) (by_pcs e k) = less_than_none ◌<◌ pcs_never (pcs_of p) (subst (λ (l : List ℕ). IsLess ◌<◌ l (pcs_of p)) (sym h.pcs) k)
 not_before p q (inr h) (by_rows e k) = rows_never h.rows k
- where
-  rows_never : IsLess IsPlainAlone (handlers_of p) (handlers_of q) ⊎ (handlers_of p ≡ handlers_of q) → IsLess IsPlainAlone (handlers_of q) (handlers_of p) → ⊥
-  rows_never (inl g) k = less_than_none IsPlainAlone plain_never (handlers_of p) (less_along IsPlainAlone plain_along (handlers_of p) (handlers_of q) (handlers_of p) g k)
-  rows_never (inr g) k = less_than_none IsPlainAlone plain_never (handlers_of p) (subst (λ (l : List Bool). IsLess IsPlainAlone l (handlers_of p)) (sym g) k)
+  where
+    rows_never : IsLess IsPlainAlone (handlers_of p) (handlers_of q) ⊎ (handlers_of p ≡ handlers_of q) → IsLess IsPlainAlone (handlers_of q) (handlers_of p) → ⊥
+    rows_never (inl g) k = less_than_none IsPlainAlone plain_never (handlers_of p) (less_along IsPlainAlone plain_along (handlers_of p) (handlers_of q) (handlers_of p) g k)
+    rows_never (inr g) k = less_than_none IsPlainAlone plain_never (handlers_of p) (subst (λ (l : List Bool). IsLess IsPlainAlone l (handlers_of p)) (sym g) k)
 
 pub strictly_is_before : (p q : List Step) → IsStrictlyBefore p q → IsBefore p q
 strictly_is_before p q (by_length h) = shorter h
@@ -128,7 +128,7 @@ pub record SameWay (p q : List Step) : Type 0 where
 pub same_way : (p q : List Step) → IsNotAfter p q → (IsBefore p q → ⊥) → SameWay p q
 same_way p q (inl h) never = absurd (never (strictly_is_before p q h))
 same_way p q (inr h) never = by_kind h.rows
- where
-  by_kind : IsLess IsPlainAlone (handlers_of p) (handlers_of q) ⊎ (handlers_of p ≡ handlers_of q) → SameWay p q
-  by_kind (inl g) = absurd (never (by_rows h.pcs g))
-  by_kind (inr g) = record { pcs = h.pcs; handlers = g }
+  where
+    by_kind : IsLess IsPlainAlone (handlers_of p) (handlers_of q) ⊎ (handlers_of p ≡ handlers_of q) → SameWay p q
+    by_kind (inl g) = absurd (never (by_rows h.pcs g))
+    by_kind (inr g) = record { pcs = h.pcs; handlers = g }

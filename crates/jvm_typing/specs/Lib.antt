@@ -3,3 +3,4 @@ pub mod Sizes
 pub mod Subjects
 pub mod Marks
 pub mod Spots
+pub mod Spreads

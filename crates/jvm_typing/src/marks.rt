@@ -1,5 +1,5 @@
 //! Heights that are given to pcs.
-ghost use Rattle.std.specs.Prelude.{◌≡◌, ◌+◌, ◌≤◌, length, OnOk};
+ghost use Rattle.std.specs.Prelude.{◌≡◌, ◌<◌, true, Some, length, slice_set, OnOk};
 ghost use Rattle.jvm_typing.specs.Marks.{is_unknown, marked, all_marked, handler_marked, handlers_marked};
 
 use crate::spots::covers;
@@ -7,7 +7,8 @@ use jo_ids::Memory;
 use jo_prog::program::Row;
 
 fn is_unknown(heights: &[Option<u16>], pc: u32) -> bool
-    ensures { result ≡ is_unknown heights.now pc }
+    ensures value { result ≡ is_unknown heights.now pc }
+    ensures inside { result ≡ true → pc < length heights.now }
 {
     match heights.get(pc as usize) {
         Some(None) => true,
@@ -16,7 +17,15 @@ fn is_unknown(heights: &[Option<u16>], pc: u32) -> bool
     }
 }
 
+fn put(heights: &mut [Option<u16>], pc: u32, height: u16)
+    requires { pc < length heights.old }
+    ensures { heights.new ≡ slice_set heights.old pc (Some height) }
+{
+    heights[pc as usize] = Some(height);
+}
+
 /// Gives the pc this height, and adds it to what is found, where it has none.
+#[tactic(auto, using(crate::proofs::MarkSteps::marked_is, crate::proofs::MarkSteps::stays_marked))]
 fn mark(
     heights: &mut [Option<u16>],
     found: &mut Vec<u32>,
@@ -25,12 +34,11 @@ fn mark(
 ) -> Result<(), Memory>
     ensures { OnOk result (record { heights = heights.new; found = found.new.items } ≡ marked to height (record { heights = heights.old; found = found.old.items })) }
 {
-    if is_unknown(heights, to) {
-        found.push(to)?;
-        if let Some(slot) = heights.get_mut(to as usize) {
-            *slot = Some(height);
-        }
+    if !is_unknown(heights, to) {
+        return Ok(());
     }
+    found.push(to)?;
+    put(heights, to, height);
     Ok(())
 }
 
