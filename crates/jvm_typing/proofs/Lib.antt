@@ -4,3 +4,10 @@ pub mod SearchState
 pub mod SearchPaths
 pub mod SearchSteps
 pub mod SearchEnds
+pub mod SearchRuns
+pub mod SizeLemmas
+pub mod DescriptorReads
+pub mod MarkSteps
+pub mod MarkLemmas
+pub mod VisitLemmas
+pub mod HeightLemmas

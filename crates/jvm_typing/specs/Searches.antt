@@ -2,7 +2,7 @@
 use Rattle.std.specs.Prelude.{◌≡◌, ◌⊎◌, ℕ, ◌+◌, ◌<◌, true, false, List, [], ◌∷◌, ◌++◌, length, Contains, Option, Some, None, slice_index, slice_index_or}
 use Rattle.std.specs.List.Sorted.{IsStrictlyIncreasing}
 use Rattle.jo_prog.specs.declared.program.Program.{Program}
-use Rattle.jo_prog.specs.TypingPaths.{Typable, Step, effect_at, height_after, ends_at, TakesStep}
+use Rattle.jo_prog.specs.TypingPaths.{Typable, Step, arrives_at, height_of, effect_at, height_after, ends_at, TakesStep, IsFirst, TypingPath}
 
 -- the height at a pc, where one is known
 abbrev pub height_at : List (Option ℕ) → ℕ → Option ℕ
@@ -41,3 +41,17 @@ abbrev pub VisitsOrRests : Program → Typable → ℕ → ℕ → List (Option 
 VisitsOrRests program t pc height old new found =
     ((ends_at program t pc height ≡ false) × Visits program t pc height old new found)
     ⊎ ((ends_at program t pc height ≡ true) × Rests old new found)
+
+-- the same at a pc that may have no height
+abbrev pub VisitsAt : Program → Typable → ℕ → Option ℕ → List (Option ℕ) → List (Option ℕ) → List ℕ → Type 0
+VisitsAt program t pc None old new found = Rests old new found
+VisitsAt program t pc (Some height) old new found = VisitsOrRests program t pc height old new found
+
+abbrev pub Advances : Program → Typable → ℕ → List (Option ℕ) → List (Option ℕ) → List ℕ → Type 0
+Advances program t pc old new found = VisitsAt program t pc (height_at old pc) old new found
+
+-- the heights of a method: exactly those of the first typing paths
+pub record AreHeights (program : Program) (t : Typable) (heights : List (Option ℕ)) : Type 0 where
+  pub is_first : (pc h : ℕ) → height_at heights pc ≡ Some h → (path : List Step) × IsFirst (TypingPath program t) pc path × (height_of program t path ≡ h)
+  pub has_first : (pc : ℕ) (path : List Step) → IsFirst (TypingPath program t) pc path → height_at heights pc ≡ Some (height_of program t path)
+  pub reached : (path : List Step) → TypingPath program t path → HasSome (height_at heights (arrives_at path))

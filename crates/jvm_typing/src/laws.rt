@@ -13,8 +13,3 @@ pub fn paths_go_on()
     ensures back { (program : Program) (t : Typable) (step : Step) (path : List Step) → TypingPath program t (step ∷ path) → Prolongs program t (TypingPath program t) step path }
     ensures heights { (program : Program) (effect : Effect) (s : Shape) → length (after program effect s).stack ≡ height_after effect (length s.stack) }
 {}
-
-/// For a try.
-pub fn try_it()
-    ensures { (n : ℕ) → n ≡ n }
-{}

@@ -3,4 +3,12 @@
 //! `laws` has what holds of the typing paths themselves.
 #![tactic(auto)]
 
+mod heights;
 pub mod laws;
+mod marks;
+mod search;
+mod sizes;
+mod spots;
+mod subjects;
+
+pub use heights::heights_of;
