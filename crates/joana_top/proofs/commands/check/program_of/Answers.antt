@@ -2,8 +2,8 @@ use Rattle.std.proofs.Common.{sym}
 use Rattle.joana_top.proofs.Forms.{not_bare, wrong_name, wrong_superclass, few_methods}
 use Rattle.joana_top.proofs.commands.check.program_of.Goals as goal
 
-pub link-requires : goal.link-requires
-link-requires c = few_methods c.args.class.now c.requires
+pub link_one-requires : goal.link_one-requires
+link_one-requires c = few_methods c.args.class.now c.requires
 
 pub returns-then-not-is_bare-clause-none : goal.returns-then-not-is_bare-clause-none
 returns-then-not-is_bare-clause-none c = not_bare c.args.class.now c.if-not-is_bare.ensures
