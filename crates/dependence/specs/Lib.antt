@@ -1,5 +1,6 @@
 pub mod Behind
 pub mod Dependence
+pub mod FactRules
 pub mod Flow
 pub mod FlowData
 pub mod FlowGraph
