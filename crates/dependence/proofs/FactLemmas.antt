@@ -16,6 +16,7 @@ use Rattle.dependence.specs.declared.facts.Fact.TheVariants.{Reached, Holds, Cel
 use Rattle.dependence.specs.declared.facts.FactCell.TheVariants.{Field as FieldOf, Elements, Static}
 use Rattle.dependence.specs.FlowGraph.{PlaceHolds, Raises, null_base, zero_divisor, negative_length, bad_index, failing_cast, wrong_element, second_start, missing_interface}
 use Rattle.dependence.specs.FactRules
+use Rattle.dependence.specs.FactRules.{args_object, string_object}
 
 abbrev pub AFact : Type 0
 AFact = Fact (List ℕ)
@@ -118,11 +119,11 @@ module _ (program : Program) (policy : ContextPolicy) (H : ℕ → ℕ → ℕ �
   finite P _ (FactRules.loads_text i pc h0 h1) = mapped P (λ Q. FactRules.RunsAt program Q i (Instr pc)) (Rule (Holds i (Instr pc) string_object)) (runs program P i (Instr pc) h0) (λ Q r. FactRules.loads_text i pc r h1)
   finite P _ (FactRules.moves i pc o h0 h1 h2) = mapped P (λ Q. (FactRules.RunsAt program Q i (Instr pc)) × (FactRules.MovedHolds program Q (H i.method) i pc o)) (Rule (Holds i (Instr pc) o)) (both P (λ Q. FactRules.RunsAt program Q i (Instr pc)) (λ Q. FactRules.MovedHolds program Q (H i.method) i pc o) (runs program P i (Instr pc) h0) (moved program P i (H i.method) pc o h2)) (λ Q r. FactRules.moves i pc o r.0 h1 r.1)
   finite P _ (FactRules.passes i pc k o h0 h1) = mapped P (λ Q. (FactRules.RunsAt program Q i (Call pc)) × (FactRules.ArgumentHolds program Q (H i.method) i pc k o)) (Rule (Holds i (Arg pc k) o)) (both P (λ Q. FactRules.RunsAt program Q i (Call pc)) (λ Q. FactRules.ArgumentHolds program Q (H i.method) i pc k o) (runs program P i (Call pc) h0) (argument program P i (H i.method) pc k o h1)) (λ Q r. FactRules.passes i pc k o r.0 r.1)
-  finite P _ (FactRules.loads_field i pc f base o h0 h1 h2 h3 h4) = mapped P (λ Q. (FactRules.RunsAt program Q i (Instr pc)) × (FactRules.BaseHolds program Q (H i.method) i pc base) × (Q (CellHolds (FieldOf f base) o))) (Rule (Holds i (Instr pc) o)) (both P (λ Q. FactRules.RunsAt program Q i (Instr pc)) (λ Q. (FactRules.BaseHolds program Q (H i.method) i pc base) × (Q (CellHolds (FieldOf f base) o))) (runs program P i (Instr pc) h0) (both P (λ Q. FactRules.BaseHolds program Q (H i.method) i pc base) (λ Q. Q (CellHolds (FieldOf f base) o)) (at_base program P i (H i.method) pc base h3) (one P (CellHolds (FieldOf f base) o) h4))) (λ Q r. FactRules.loads_field i pc f base o r.0 h1 h2 r.1 r.2)
-  finite P _ (FactRules.loads_element i pc base o h0 h1 h2 h3) = mapped P (λ Q. (FactRules.RunsAt program Q i (Instr pc)) × (FactRules.BaseHolds program Q (H i.method) i pc base) × (Q (CellHolds (Elements base) o))) (Rule (Holds i (Instr pc) o)) (both P (λ Q. FactRules.RunsAt program Q i (Instr pc)) (λ Q. (FactRules.BaseHolds program Q (H i.method) i pc base) × (Q (CellHolds (Elements base) o))) (runs program P i (Instr pc) h0) (both P (λ Q. FactRules.BaseHolds program Q (H i.method) i pc base) (λ Q. Q (CellHolds (Elements base) o)) (at_base program P i (H i.method) pc base h2) (one P (CellHolds (Elements base) o) h3))) (λ Q r. FactRules.loads_element i pc base o r.0 h1 r.1 r.2)
+  finite P _ (FactRules.loads_field i pc f base o h0 h1 h2 h3 h4) = mapped P (λ Q. (FactRules.RunsAt program Q i (Instr pc)) × ((FactRules.BaseHolds program Q (H i.method) i pc base) × (Q (CellHolds (FieldOf f base) o)))) (Rule (Holds i (Instr pc) o)) (both P (λ Q. FactRules.RunsAt program Q i (Instr pc)) (λ Q. (FactRules.BaseHolds program Q (H i.method) i pc base) × (Q (CellHolds (FieldOf f base) o))) (runs program P i (Instr pc) h0) (both P (λ Q. FactRules.BaseHolds program Q (H i.method) i pc base) (λ Q. Q (CellHolds (FieldOf f base) o)) (at_base program P i (H i.method) pc base h3) (one P (CellHolds (FieldOf f base) o) h4))) (λ Q r. FactRules.loads_field i pc f base o r.0 h1 h2 r.1.0 r.1.1)
+  finite P _ (FactRules.loads_element i pc base o h0 h1 h2 h3) = mapped P (λ Q. (FactRules.RunsAt program Q i (Instr pc)) × ((FactRules.BaseHolds program Q (H i.method) i pc base) × (Q (CellHolds (Elements base) o)))) (Rule (Holds i (Instr pc) o)) (both P (λ Q. FactRules.RunsAt program Q i (Instr pc)) (λ Q. (FactRules.BaseHolds program Q (H i.method) i pc base) × (Q (CellHolds (Elements base) o))) (runs program P i (Instr pc) h0) (both P (λ Q. FactRules.BaseHolds program Q (H i.method) i pc base) (λ Q. Q (CellHolds (Elements base) o)) (at_base program P i (H i.method) pc base h2) (one P (CellHolds (Elements base) o) h3))) (λ Q r. FactRules.loads_element i pc base o r.0 h1 r.1.0 r.1.1)
   finite P _ (FactRules.loads_static i pc f o h0 h1 h2 h3) = mapped P (λ Q. (FactRules.RunsAt program Q i (Instr pc)) × (Q (CellHolds (Static f) o))) (Rule (Holds i (Instr pc) o)) (both P (λ Q. FactRules.RunsAt program Q i (Instr pc)) (λ Q. Q (CellHolds (Static f) o)) (runs program P i (Instr pc) h0) (one P (CellHolds (Static f) o) h3)) (λ Q r. FactRules.loads_static i pc f o r.0 h1 h2 r.1)
-  finite P _ (FactRules.stores_field i pc f base o h0 h1 h2 h3 h4) = mapped P (λ Q. (FactRules.RunsAt program Q i (Instr pc)) × (FactRules.BaseHolds program Q (H i.method) i pc base) × (FactRules.TopHolds program Q (H i.method) i pc o)) (Rule (CellHolds (FieldOf f base) o)) (both P (λ Q. FactRules.RunsAt program Q i (Instr pc)) (λ Q. (FactRules.BaseHolds program Q (H i.method) i pc base) × (FactRules.TopHolds program Q (H i.method) i pc o)) (runs program P i (Instr pc) h0) (both P (λ Q. FactRules.BaseHolds program Q (H i.method) i pc base) (λ Q. FactRules.TopHolds program Q (H i.method) i pc o) (at_base program P i (H i.method) pc base h3) (at_top program P i (H i.method) pc o h4))) (λ Q r. FactRules.stores_field i pc f base o r.0 h1 h2 r.1 r.2)
-  finite P _ (FactRules.stores_element i pc base o h0 h1 h2 h3) = mapped P (λ Q. (FactRules.RunsAt program Q i (Instr pc)) × (FactRules.BaseHolds program Q (H i.method) i pc base) × (FactRules.TopHolds program Q (H i.method) i pc o)) (Rule (CellHolds (Elements base) o)) (both P (λ Q. FactRules.RunsAt program Q i (Instr pc)) (λ Q. (FactRules.BaseHolds program Q (H i.method) i pc base) × (FactRules.TopHolds program Q (H i.method) i pc o)) (runs program P i (Instr pc) h0) (both P (λ Q. FactRules.BaseHolds program Q (H i.method) i pc base) (λ Q. FactRules.TopHolds program Q (H i.method) i pc o) (at_base program P i (H i.method) pc base h2) (at_top program P i (H i.method) pc o h3))) (λ Q r. FactRules.stores_element i pc base o r.0 h1 r.1 r.2)
+  finite P _ (FactRules.stores_field i pc f base o h0 h1 h2 h3 h4) = mapped P (λ Q. (FactRules.RunsAt program Q i (Instr pc)) × ((FactRules.BaseHolds program Q (H i.method) i pc base) × (FactRules.TopHolds program Q (H i.method) i pc o))) (Rule (CellHolds (FieldOf f base) o)) (both P (λ Q. FactRules.RunsAt program Q i (Instr pc)) (λ Q. (FactRules.BaseHolds program Q (H i.method) i pc base) × (FactRules.TopHolds program Q (H i.method) i pc o)) (runs program P i (Instr pc) h0) (both P (λ Q. FactRules.BaseHolds program Q (H i.method) i pc base) (λ Q. FactRules.TopHolds program Q (H i.method) i pc o) (at_base program P i (H i.method) pc base h3) (at_top program P i (H i.method) pc o h4))) (λ Q r. FactRules.stores_field i pc f base o r.0 h1 h2 r.1.0 r.1.1)
+  finite P _ (FactRules.stores_element i pc base o h0 h1 h2 h3) = mapped P (λ Q. (FactRules.RunsAt program Q i (Instr pc)) × ((FactRules.BaseHolds program Q (H i.method) i pc base) × (FactRules.TopHolds program Q (H i.method) i pc o))) (Rule (CellHolds (Elements base) o)) (both P (λ Q. FactRules.RunsAt program Q i (Instr pc)) (λ Q. (FactRules.BaseHolds program Q (H i.method) i pc base) × (FactRules.TopHolds program Q (H i.method) i pc o)) (runs program P i (Instr pc) h0) (both P (λ Q. FactRules.BaseHolds program Q (H i.method) i pc base) (λ Q. FactRules.TopHolds program Q (H i.method) i pc o) (at_base program P i (H i.method) pc base h2) (at_top program P i (H i.method) pc o h3))) (λ Q r. FactRules.stores_element i pc base o r.0 h1 r.1.0 r.1.1)
   finite P _ (FactRules.stores_static i pc f o h0 h1 h2 h3) = mapped P (λ Q. (FactRules.RunsAt program Q i (Instr pc)) × (FactRules.TopHolds program Q (H i.method) i pc o)) (Rule (CellHolds (Static f) o)) (both P (λ Q. FactRules.RunsAt program Q i (Instr pc)) (λ Q. FactRules.TopHolds program Q (H i.method) i pc o) (runs program P i (Instr pc) h0) (at_top program P i (H i.method) pc o h3)) (λ Q r. FactRules.stores_static i pc f o r.0 h1 h2 r.1)
   finite P _ (FactRules.raises i pc site cause o h0 h1 h2 h3) = mapped P (λ Q. (FactRules.RunsAt program Q i (Throw pc)) × (Raises program Q (H i.method) i pc cause)) (Rule (Holds i (Throw pc) o)) (both P (λ Q. FactRules.RunsAt program Q i (Throw pc)) (λ Q. Raises program Q (H i.method) i pc cause) (runs program P i (Throw pc) h0) (raised program P i (H i.method) pc cause h1)) (λ Q r. FactRules.raises i pc site cause o r.0 r.1 h2 h3)
   finite P _ (FactRules.throws i pc o h0 h1 h2) = mapped P (λ Q. (FactRules.RunsAt program Q i (Throw pc)) × (FactRules.TopHolds program Q (H i.method) i pc o)) (Rule (Holds i (Throw pc) o)) (both P (λ Q. FactRules.RunsAt program Q i (Throw pc)) (λ Q. FactRules.TopHolds program Q (H i.method) i pc o) (runs program P i (Throw pc) h0) (at_top program P i (H i.method) pc o h2)) (λ Q r. FactRules.throws i pc o r.0 h1 r.1)
@@ -130,18 +131,18 @@ module _ (program : Program) (policy : ContextPolicy) (H : ℕ → ℕ → ℕ �
   finite P _ (FactRules.calls_on i j pc o h0 h1 h2) = mapped P (λ Q. (FactRules.RunsAt program Q i (Call pc)) × (Q (Holds i (Arg pc 0) o))) (Rule (Target i pc j)) (both P (λ Q. FactRules.RunsAt program Q i (Call pc)) (λ Q. Q (Holds i (Arg pc 0) o)) (runs program P i (Call pc) h0) (one P (Holds i (Arg pc 0) o) h1)) (λ Q r. FactRules.calls_on i j pc o r.0 r.1 h2)
   finite P _ (FactRules.starts i j pc o h0 h1 h2) = mapped P (λ Q. (FactRules.RunsAt program Q i (Call pc)) × (Q (Holds i (Arg pc 0) o))) (Rule (Fork i pc j)) (both P (λ Q. FactRules.RunsAt program Q i (Call pc)) (λ Q. Q (Holds i (Arg pc 0) o)) (runs program P i (Call pc) h0) (one P (Holds i (Arg pc 0) o) h1)) (λ Q r. FactRules.starts i j pc o r.0 r.1 h2)
   finite P _ (FactRules.is_called i j pc h0 h1) = mapped P (λ Q. (Q (Reached i)) × (FactRules.IsTarget Q i pc j)) (Rule (Reached j)) (both P (λ Q. Q (Reached i)) (λ Q. FactRules.IsTarget Q i pc j) (one P (Reached i) h0) (target P i j pc h1)) (λ Q r. FactRules.is_called i j pc r.0 r.1)
-  finite P _ (FactRules.is_given_receiver i j pc k o fork h0 h1 h2 h3 h4) = mapped P (λ Q. (Q (Reached i)) × (FactRules.IsTarget Q i pc j) × (Q (Holds i (Arg pc k) o))) (Rule (Holds j (Param k) o)) (both P (λ Q. Q (Reached i)) (λ Q. (FactRules.IsTarget Q i pc j) × (Q (Holds i (Arg pc k) o))) (one P (Reached i) h0) (both P (λ Q. FactRules.IsTarget Q i pc j) (λ Q. Q (Holds i (Arg pc k) o)) (target P i j pc h1) (one P (Holds i (Arg pc k) o) h3))) (λ Q r. FactRules.is_given_receiver i j pc k o fork r.0 r.1 h2 r.2 h4)
-  finite P _ (FactRules.is_given_argument i j pc k o h0 h1 h2 h3) = mapped P (λ Q. (Q (Reached i)) × (FactRules.IsTarget Q i pc j) × (Q (Holds i (Arg pc k) o))) (Rule (Holds j (Param k) o)) (both P (λ Q. Q (Reached i)) (λ Q. (FactRules.IsTarget Q i pc j) × (Q (Holds i (Arg pc k) o))) (one P (Reached i) h0) (both P (λ Q. FactRules.IsTarget Q i pc j) (λ Q. Q (Holds i (Arg pc k) o)) (target P i j pc h1) (one P (Holds i (Arg pc k) o) h3))) (λ Q r. FactRules.is_given_argument i j pc k o r.0 r.1 h2 r.2)
+  finite P _ (FactRules.is_given_receiver i j pc k o fork h0 h1 h2 h3 h4) = mapped P (λ Q. (Q (Reached i)) × ((FactRules.IsTarget Q i pc j) × (Q (Holds i (Arg pc k) o)))) (Rule (Holds j (Param k) o)) (both P (λ Q. Q (Reached i)) (λ Q. (FactRules.IsTarget Q i pc j) × (Q (Holds i (Arg pc k) o))) (one P (Reached i) h0) (both P (λ Q. FactRules.IsTarget Q i pc j) (λ Q. Q (Holds i (Arg pc k) o)) (target P i j pc h1) (one P (Holds i (Arg pc k) o) h3))) (λ Q r. FactRules.is_given_receiver i j pc k o fork r.0 r.1.0 h2 r.1.1 h4)
+  finite P _ (FactRules.is_given_argument i j pc k o h0 h1 h2 h3) = mapped P (λ Q. (Q (Reached i)) × ((FactRules.IsTarget Q i pc j) × (Q (Holds i (Arg pc k) o)))) (Rule (Holds j (Param k) o)) (both P (λ Q. Q (Reached i)) (λ Q. (FactRules.IsTarget Q i pc j) × (Q (Holds i (Arg pc k) o))) (one P (Reached i) h0) (both P (λ Q. FactRules.IsTarget Q i pc j) (λ Q. Q (Holds i (Arg pc k) o)) (target P i j pc h1) (one P (Holds i (Arg pc k) o) h3))) (λ Q r. FactRules.is_given_argument i j pc k o r.0 r.1.0 h2 r.1.1)
   finite P _ (FactRules.returns i pc o h0 h1 h2) = mapped P (λ Q. (FactRules.RunsAt program Q i (Instr pc)) × (FactRules.TopHolds program Q (H i.method) i pc o)) (Rule (Holds i Value o)) (both P (λ Q. FactRules.RunsAt program Q i (Instr pc)) (λ Q. FactRules.TopHolds program Q (H i.method) i pc o) (runs program P i (Instr pc) h0) (at_top program P i (H i.method) pc o h2)) (λ Q r. FactRules.returns i pc o r.0 h1 r.1)
-  finite P _ (FactRules.comes_back i j pc o h0 h1 h2) = mapped P (λ Q. (Q (Reached i)) × (Q (Target i pc j)) × (Q (Holds j Value o))) (Rule (Holds i (RetVal pc) o)) (both P (λ Q. Q (Reached i)) (λ Q. (Q (Target i pc j)) × (Q (Holds j Value o))) (one P (Reached i) h0) (both P (λ Q. Q (Target i pc j)) (λ Q. Q (Holds j Value o)) (one P (Target i pc j) h1) (one P (Holds j Value o) h2))) (λ Q r. FactRules.comes_back i j pc o r.0 r.1 r.2)
+  finite P _ (FactRules.comes_back i j pc o h0 h1 h2) = mapped P (λ Q. (Q (Reached i)) × ((Q (Target i pc j)) × (Q (Holds j Value o)))) (Rule (Holds i (RetVal pc) o)) (both P (λ Q. Q (Reached i)) (λ Q. (Q (Target i pc j)) × (Q (Holds j Value o))) (one P (Reached i) h0) (both P (λ Q. Q (Target i pc j)) (λ Q. Q (Holds j Value o)) (one P (Target i pc j) h1) (one P (Holds j Value o) h2))) (λ Q r. FactRules.comes_back i j pc o r.0 r.1.0 r.1.1)
   finite P _ (FactRules.is_caught i pc k o h0 h1 h2) = mapped P (λ Q. (Q (Reached i)) × (Q (Holds i (Throw pc) o))) (Rule (Holds i (Catch k) o)) (both P (λ Q. Q (Reached i)) (λ Q. Q (Holds i (Throw pc) o)) (one P (Reached i) h0) (one P (Holds i (Throw pc) o) h1)) (λ Q r. FactRules.is_caught i pc k o r.0 r.1 h2)
   finite P _ (FactRules.leaves i pc o h0 h1 h2) = mapped P (λ Q. (Q (Reached i)) × (Q (Holds i (Throw pc) o))) (Rule (Holds i Thrown o)) (both P (λ Q. Q (Reached i)) (λ Q. Q (Holds i (Throw pc) o)) (one P (Reached i) h0) (one P (Holds i (Throw pc) o) h1)) (λ Q r. FactRules.leaves i pc o r.0 r.1 h2)
   finite P _ (FactRules.ends_so i pc o h0 h1 h2) = mapped P (λ Q. (Q (Reached i)) × (Q (Holds i (Throw pc) o))) (Rule (Throws i)) (both P (λ Q. Q (Reached i)) (λ Q. Q (Holds i (Throw pc) o)) (one P (Reached i) h0) (one P (Holds i (Throw pc) o) h1)) (λ Q r. FactRules.ends_so i pc o r.0 r.1 h2)
-  finite P _ (FactRules.comes_out i j pc o h0 h1 h2) = mapped P (λ Q. (Q (Reached i)) × (Q (Target i pc j)) × (Q (Holds j Thrown o))) (Rule (Holds i (Throw pc) o)) (both P (λ Q. Q (Reached i)) (λ Q. (Q (Target i pc j)) × (Q (Holds j Thrown o))) (one P (Reached i) h0) (both P (λ Q. Q (Target i pc j)) (λ Q. Q (Holds j Thrown o)) (one P (Target i pc j) h1) (one P (Holds j Thrown o) h2))) (λ Q r. FactRules.comes_out i j pc o r.0 r.1 r.2)
+  finite P _ (FactRules.comes_out i j pc o h0 h1 h2) = mapped P (λ Q. (Q (Reached i)) × ((Q (Target i pc j)) × (Q (Holds j Thrown o)))) (Rule (Holds i (Throw pc) o)) (both P (λ Q. Q (Reached i)) (λ Q. (Q (Target i pc j)) × (Q (Holds j Thrown o))) (one P (Reached i) h0) (both P (λ Q. Q (Target i pc j)) (λ Q. Q (Holds j Thrown o)) (one P (Target i pc j) h1) (one P (Holds j Thrown o) h2))) (λ Q r. FactRules.comes_out i j pc o r.0 r.1.0 r.1.1)
   finite P _ (FactRules.loops i pc target h0) = mapped P (λ Q. FactRules.RunsAt program Q i (Poll pc target)) (Rule (Stalls i)) (runs program P i (Poll pc target) h0) (λ Q r. FactRules.loops i pc target r)
   finite P _ (FactRules.loops_caught i pc k h0) = mapped P (λ Q. FactRules.RunsAt program Q i (XPoll pc k)) (Rule (Stalls i)) (runs program P i (XPoll pc k) h0) (λ Q r. FactRules.loops_caught i pc k r)
-  finite P _ (FactRules.waits i j pc h0 h1 h2) = mapped P (λ Q. (Q (Reached i)) × (Q (Target i pc j)) × (Q (Stalls j))) (Rule (Stalls i)) (both P (λ Q. Q (Reached i)) (λ Q. (Q (Target i pc j)) × (Q (Stalls j))) (one P (Reached i) h0) (both P (λ Q. Q (Target i pc j)) (λ Q. Q (Stalls j)) (one P (Target i pc j) h1) (one P (Stalls j) h2))) (λ Q r. FactRules.waits i j pc r.0 r.1 r.2)
-  finite P _ (FactRules.recurs i j h0 h1 h2) = mapped P (λ Q. (Q (Reached i)) × (FactRules.CallsInThread Q i j) × (Path (FactRules.CallsInThread Q) j i)) (Rule (Stalls i)) (both P (λ Q. Q (Reached i)) (λ Q. (FactRules.CallsInThread Q i j) × (Path (FactRules.CallsInThread Q) j i)) (one P (Reached i) h0) (both P (λ Q. FactRules.CallsInThread Q i j) (λ Q. Path (FactRules.CallsInThread Q) j i) (in_thread P i j h1) (calls_on_path P j i h2))) (λ Q r. FactRules.recurs i j r.0 r.1 r.2)
+  finite P _ (FactRules.waits i j pc h0 h1 h2) = mapped P (λ Q. (Q (Reached i)) × ((Q (Target i pc j)) × (Q (Stalls j)))) (Rule (Stalls i)) (both P (λ Q. Q (Reached i)) (λ Q. (Q (Target i pc j)) × (Q (Stalls j))) (one P (Reached i) h0) (both P (λ Q. Q (Target i pc j)) (λ Q. Q (Stalls j)) (one P (Target i pc j) h1) (one P (Stalls j) h2))) (λ Q r. FactRules.waits i j pc r.0 r.1.0 r.1.1)
+  finite P _ (FactRules.recurs i j h0 h1 h2) = mapped P (λ Q. (Q (Reached i)) × ((FactRules.CallsInThread Q i j) × (Path (FactRules.CallsInThread Q) j i))) (Rule (Stalls i)) (both P (λ Q. Q (Reached i)) (λ Q. (FactRules.CallsInThread Q i j) × (Path (FactRules.CallsInThread Q) j i)) (one P (Reached i) h0) (both P (λ Q. FactRules.CallsInThread Q i j) (λ Q. Path (FactRules.CallsInThread Q) j i) (in_thread P i j h1) (calls_on_path P j i h2))) (λ Q r. FactRules.recurs i j r.0 r.1.0 r.1.1)
 
   -- with more facts no less follows
   pub rule_more : (P Q : AFact → Type 0) (fact : AFact) → ((f : AFact) → P f → Q f) → FactRules.ByRule program policy H entry P fact → FactRules.ByRule program policy H entry Q fact
@@ -189,27 +190,26 @@ module _ (program : Program) (policy : ContextPolicy) (H : ℕ → ℕ → ℕ �
       record { facts = fact ∷ all.all; derivation = FactRules.more fact all.all (used.gives (Contains all.all) all.has) all.derived; there = here fact all.all }
 
   -- what holds of each fact that follows from facts of which it holds, holds of each derivable fact
-  pub least : (Q : AFact → Type 0) → ((f : AFact) → FactRules.ByRule program policy H entry Q f → Q f) → (fact : AFact) → CanDerive fact → Q fact
-  least Q keeps fact h = among h.facts h.derivation fact h.there
-    where
-      among : (facts : List AFact) → IsDerived facts → (f : AFact) → Contains facts f → Q f
-      among [] d f c = absurd (none_there f c)
-      among (x ∷ xs) (FactRules.more _ _ rule rest) f c = by_case (head_or_behind x xs f c)
-        where
-          by_case : (x ≡ f) ⊎ Contains xs f → Q f
-          by_case (inl e) = subst Q e (keeps x (rule_more (Contains xs) Q x (λ g at. among xs rest g at) rule))
-          by_case (inr at) = among xs rest f at
+  module _ (Q : AFact → Type 0) (keeps : (f : AFact) → FactRules.ByRule program policy H entry Q f → Q f) where
+    among : (facts : List AFact) → IsDerived facts → (f : AFact) → Contains facts f → Q f
+    among [] d f c = absurd (none_there f c)
+    among (x ∷ xs) (FactRules.more _ _ rule rest) f c = elim (head_or_behind x xs f c) [
+      | inl e ↦ subst Q e (keeps x (rule_more (Contains xs) Q x (λ g at. among xs rest g at) rule))
+      | inr at ↦ among xs rest f at
+    ]
+
+    pub least : (fact : AFact) → CanDerive fact → Q fact
+    least fact h = among h.facts h.derivation fact h.there
 
   -- a derivable fact follows from derivable facts
+  last_follows : (fact : AFact) (facts : List AFact) → IsDerived facts → Contains facts fact → FactRules.ByRule program policy H entry CanDerive fact
+  last_follows fact [] d c = absurd (none_there fact c)
+  last_follows fact (x ∷ xs) (FactRules.more _ _ rule rest) c = elim (head_or_behind x xs fact c) [
+    | inl e ↦
+        subst (λ f. FactRules.ByRule program policy H entry CanDerive f) e
+          (rule_more (Contains xs) CanDerive x (λ f at. record { facts = xs; derivation = rest; there = at }) rule)
+    | inr at ↦ last_follows fact xs rest at
+  ]
+
   pub follows : (fact : AFact) → CanDerive fact → FactRules.ByRule program policy H entry CanDerive fact
-  follows fact h = last h.facts h.derivation h.there
-    where
-      last : (facts : List AFact) → IsDerived facts → Contains facts fact → FactRules.ByRule program policy H entry CanDerive fact
-      last [] d c = absurd (none_there fact c)
-      last (x ∷ xs) (FactRules.more _ _ rule rest) c = by_case (head_or_behind x xs fact c)
-        where
-          by_case : (x ≡ fact) ⊎ Contains xs fact → FactRules.ByRule program policy H entry CanDerive fact
-          by_case (inl e) =
-              subst (λ f. FactRules.ByRule program policy H entry CanDerive f) e
-                (rule_more (Contains xs) CanDerive x (λ f at. record { facts = xs; derivation = rest; there = at }) rule)
-          by_case (inr at) = last xs rest at
+  follows fact h = last_follows fact h.facts h.derivation h.there

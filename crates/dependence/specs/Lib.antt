@@ -1,5 +1,6 @@
 pub mod Behind
 pub mod Dependence
+pub mod DependenceEdges
 pub mod FactRules
 pub mod Flow
 pub mod FlowData
@@ -7,6 +8,7 @@ pub mod FlowGraph
 pub mod Graph
 pub mod GraphData
 pub mod GraphsAsData
+pub mod HeapDependence
 pub mod Listed
 pub mod MayBeNull
 pub mod NodePlaces
