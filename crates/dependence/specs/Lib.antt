@@ -12,4 +12,5 @@ pub mod HeapDependence
 pub mod Listed
 pub mod MayBeNull
 pub mod NodePlaces
+pub mod ProgramGraph
 pub mod WideGraph
