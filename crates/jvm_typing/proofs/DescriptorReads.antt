@@ -18,7 +18,7 @@ use Rattle.jo_prog.specs.MethodTypes.{with_param, params_from, whole, field_desc
 
 -- ---- fields
 
-field_whole : (desc : FieldDesc) (bytes : List ℕ) → SpellsField desc bytes → field_desc_in bytes ≡ Some desc
+pub field_whole : (desc : FieldDesc) (bytes : List ℕ) → SpellsField desc bytes → field_desc_in bytes ≡ Some desc
 field_whole desc bytes h =
     let read : read_field bytes ≡ Some (desc, []) = ap read_field (h.0 ∙ sym (append-nil (field_text desc))) ∙ field_again desc [] h.1 in
     ap (option_and_then whole) read

@@ -8,10 +8,10 @@ use Rattle.jo_prog.specs.Program.{method_at}
 use Rattle.jo_prog.specs.TypingPaths.{Typable, IsTypable, HasHeightAt}
 use Rattle.jvm_typing.specs.Searches.{height_at, AreHeights}
 
-some_same : {A : Type 0} (a b : A) → Some a ≡ Some b → a ≡ b
+pub some_same : {A : Type 0} (a b : A) → Some a ≡ Some b → a ≡ b
 some_same a b e = ap (λ (o : Option _). elim o [ Some x ↦ x | None ↦ a ]) e
 
-one_typable : (program : Program) (m : ℕ) (s t : Typable) → IsTypable program m s → IsTypable program m t → s ≡ t
+pub one_typable : (program : Program) (m : ℕ) (s t : Typable) → IsTypable program m s → IsTypable program m t → s ≡ t
 one_typable program m s t hs ht =
     let numbers : s.number ≡ t.number = hs.0 ∙ sym ht.0 in
     let methods : s.method ≡ t.method = some_same s.method t.method (sym hs.1 ∙ ht.1) in

@@ -11,3 +11,14 @@ pub mod MarkSteps
 pub mod MarkLemmas
 pub mod VisitLemmas
 pub mod HeightLemmas
+pub mod AddsLemmas
+pub mod MoveLemmas
+pub mod FaultLemmas
+pub mod ArrivalLemmas
+pub mod AnswerLemmas
+pub mod EffectLemmas
+pub mod SourceLemmas
+pub mod GrowLemmas
+pub mod ShapeLemmas
+pub mod KindLemmas
+pub mod StartLemmas

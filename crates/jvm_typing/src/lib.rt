@@ -3,12 +3,20 @@
 //! `laws` has what holds of the typing paths themselves.
 #![tactic(auto)]
 
+mod effects;
+mod facts;
+mod faults;
+mod forms;
 mod heights;
+mod kinds;
 pub mod laws;
 mod marks;
+mod moves;
 mod search;
 mod sizes;
+mod sources;
 mod spots;
+mod starts;
 mod subjects;
 
-pub use heights::heights_of;
+pub use heights::{first_height_fault, heights_of};
