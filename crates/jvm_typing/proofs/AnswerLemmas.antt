@@ -1,16 +1,15 @@
 -- The first fault that is told is the first that typing paths meet.
-use Rattle.std.proofs.Common.{◌≡◌, ◌↔◌, ℕ, ◌+◌, ◌*◌, ◌<◌, ◌≤◌, List, [], ◌∷◌, length, Option, Some, None, Contains, refl, sym, ◌∙◌, ap, subst, arith}
+use Rattle.std.proofs.Common.{◌≡◌, ◌↔◌, ℕ, ◌*◌, ◌≤◌, List, Option, Some, None, Contains, sym, ◌∙◌, ap, subst, arith}
 use Rattle.jo_prog.specs.declared.program.Program.{Program}
 use Rattle.jo_prog.specs.declared.program.Method.{Method}
 use Rattle.jo_prog.specs.declared.typed.TypeCode.{TypeCode}
-use Rattle.jo_prog.specs.declared.typed.TypeCode.TheVariants.{Underflow, Overflow, HeightDiffers, WrongKind, FallsOff, LocalRange, Memory}
 use Rattle.jo_prog.specs.declared.typed.TypeFault.{TypeFault}
 use Rattle.jo_prog.specs.Program.{method_at}
-use Rattle.jo_prog.specs.TypingPaths.{Typable, Step, IsTypable, TypingPath, arrives_at, MeetsAtEnd, MeetsFault, number_of}
+use Rattle.jo_prog.specs.TypingPaths.{Typable, IsTypable, MeetsFault, number_of}
 use Rattle.jvm_typing.specs.Searches.{AreHeights}
-use Rattle.jvm_typing.specs.Moves.{height_fault, Tells, IsHeightFault}
-use Rattle.jvm_typing.specs.FirstFaults.{key_of, IsFirstFault, IsFirstOf}
-use Rattle.jvm_typing.specs.HeightFaults.{MeetsByHeight, IsFirstByHeight, IsHeightAnswer}
+use Rattle.jvm_typing.specs.Moves.{IsHeightFault}
+use Rattle.jvm_typing.specs.FirstFaults.{key_of, IsFirstOf}
+use Rattle.jvm_typing.specs.HeightFaults.{MeetsByHeight, IsHeightAnswer}
 use Rattle.jvm_typing.proofs.HeightLemmas.{one_typable, some_same}
 use Rattle.jvm_typing.proofs.ArrivalLemmas.{Meets, found_met, FoundBy, met_found, never_kind}
 

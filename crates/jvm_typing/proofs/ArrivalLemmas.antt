@@ -1,5 +1,5 @@
 -- Which heights arrive at a pc, and which faults typing paths meet by them.
-use Rattle.std.proofs.Common.{◌≡◌, ◌⊎◌, ◌↔◌, ℕ, zero, suc, ◌+◌, ◌*◌, ◌<◌, ◌≤◌, Bool, true, false, not, eqb, cond, List, [], ◌∷◌, length, Option, Some, None, Contains, refl, sym, ◌∙◌, ap, subst, inl, inr, arith}
+use Rattle.std.proofs.Common.{◌≡◌, ◌⊎◌, ℕ, ◌≤◌, Bool, true, false, not, cond, List, [], ◌∷◌, Option, Some, None, refl, sym, ◌∙◌, ap, subst, inl, inr, arith}
 use Rattle.std.specs.Prelude.{◌==◌}
 use Rattle.jo_prog.specs.declared.program.Program.{Program}
 use Rattle.jo_prog.specs.declared.typed.TypeCode.{TypeCode}
@@ -7,8 +7,8 @@ use Rattle.jo_prog.specs.declared.typed.TypeCode.TheVariants.{Underflow, Overflo
 use Rattle.jo_prog.specs.declared.typed.TypeFault.{TypeFault}
 use Rattle.jo_prog.specs.TypingPaths.{Typable, Step, arrives_at, height_of, ends_at, underflows, overflows, falls_off, out_of_range, TakesStep, IsFirst, GoesOn, Prolongs, TypingPath, Differs, MeetsAtEnd, number_of}
 use Rattle.jvm_typing.specs.declared.moves.Move.{Move}
-use Rattle.jvm_typing.specs.Searches.{height_at, height_behind, HasSome, AreHeights}
-use Rattle.jvm_typing.specs.Moves.{LeavesFrom, LeavesAt, IsMove, Arrives, Tells, other_height, height_fault, FaultAt, IsHeightFault}
+use Rattle.jvm_typing.specs.Searches.{height_at, height_behind, AreHeights}
+use Rattle.jvm_typing.specs.Moves.{LeavesFrom, LeavesAt, IsMove, Arrives, other_height, height_fault, IsHeightFault}
 use Rattle.jvm_typing.proofs.PathSteps.{begins, onward, back}
 use Rattle.jvm_typing.proofs.SearchPaths.{height_stepped}
 

@@ -1,5 +1,5 @@
 -- Faults that are found by heights, and the first of them.
-use Rattle.std.proofs.Common.{◌≡◌, ◌⊎◌, ◌↔◌, ℕ, zero, suc, ◌+◌, ◌*◌, ◌<◌, ◌≤◌, Bool, true, false, List, [], ◌∷◌, ◌++◌, length, get_or, take, Option, Some, None, Contains, refl, sym, ◌∙◌, ap, subst, inl, inr, arith}
+use Rattle.std.proofs.Common.{◌≡◌, ◌⊎◌, ◌↔◌, ℕ, ◌+◌, ◌<◌, ◌≤◌, List, [], ◌∷◌, ◌++◌, length, get_or, take, Option, Some, None, Contains, refl, sym, ◌∙◌, ap, subst, inl, inr, arith}
 use Rattle.std.proofs.lemmas.List.{take_more}
 use Rattle.std.proofs.lemmas.List.Elements.{Contains-append_left, Contains-push, Contains-push_cases}
 use Rattle.jo_prog.specs.declared.program.Program.{Program}
@@ -8,8 +8,8 @@ use Rattle.jo_prog.specs.declared.typed.TypeFault.{TypeFault}
 use Rattle.jo_prog.specs.TypingPaths.{Typable}
 use Rattle.jvm_typing.specs.declared.moves.Move.{Move}
 use Rattle.jvm_typing.specs.Adds.{Adds, From}
-use Rattle.jvm_typing.specs.Moves.{IsMove, Arrives, Tells, FaultAt, FaultBehind, IsHeightFault}
-use Rattle.jvm_typing.specs.FirstFaults.{key_of, IsFirstFault, IsFirstOf, IsSooner}
+use Rattle.jvm_typing.specs.Moves.{IsMove, Tells, FaultAt, FaultBehind, IsHeightFault}
+use Rattle.jvm_typing.specs.FirstFaults.{key_of, IsFirstOf, IsSooner}
 use Rattle.jvm_typing.proofs.AddsLemmas.{adds_none, adds_alike, adds_more, adds_pushed, adds_all}
 
 pub none_added : (S : TypeFault → Type 0) (pc : ℕ) → Adds S S (Tells pc None)

@@ -1,7 +1,7 @@
 -- Lists that grow by what is not there yet.
 use Rattle.std.proofs.Common.{◌≡◌, ◌↔◌, ◌⊎◌, ℕ, zero, suc, ◌+◌, ◌<◌, ◌≤◌, Bool, true, false, ◌||◌, List, [], ◌∷◌, ◌++◌, length, get_or, take, map, Contains, refl, sym, ◌∙◌, ap, subst, inl, inr, arith}
 use Rattle.std.proofs.lemmas.List.{take_more, take_all}
-use Rattle.std.proofs.lemmas.List.Elements.{Contains-append_left, Contains-push, Contains-push_cases}
+use Rattle.std.proofs.lemmas.List.Elements.{Contains-append_left, Contains-push_cases}
 use Rattle.jo_prog.specs.declared.program.Program.{Program}
 use Rattle.jo_prog.specs.Typing.{Kind}
 use Rattle.jo_prog.specs.Shapes.{Change, changed}
@@ -9,7 +9,7 @@ use Rattle.jvm_typing.specs.declared.facts.Fact.{Fact}
 use Rattle.jvm_typing.specs.declared.kinds.Kind.{Kind as KindHere}
 use Rattle.jvm_typing.specs.Adds.{Adds, From}
 use Rattle.jvm_typing.specs.Kinds.{kind_in}
-use Rattle.jvm_typing.specs.KindPasses.{Item, item_in, items_of, Grows, Brings, Gives, Fixed, FromPlace, Source, Turned, HeldBy}
+use Rattle.jvm_typing.specs.KindPasses.{Item, item_in, items_of, Grows, Brings, Fixed, FromPlace, Turned, HeldBy}
 use Rattle.jvm_typing.proofs.AddsLemmas.{from_none, from_more, adds_none, adds_alike, adds_pushed, adds_all}
 
 pub map_push : {A B : Type 0} (f : A → B) (xs : List A) (x : A) → map f (xs ++ x ∷ []) ≡ map f xs ++ f x ∷ []

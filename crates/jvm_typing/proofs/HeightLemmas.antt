@@ -1,9 +1,8 @@
 -- The heights of a method are those of its code.
-use Rattle.std.proofs.Common.{◌≡◌, ℕ, List, [], length, Option, Some, None, refl, sym, ◌∙◌, ap, subst, get_or}
+use Rattle.std.proofs.Common.{◌≡◌, ℕ, List, [], Option, Some, None, sym, ◌∙◌, ap, subst}
 use Rattle.std.specs.Prelude.{◌↔◌}
 use Rattle.jo_prog.specs.declared.program.Program.{Program}
 use Rattle.jo_prog.specs.declared.program.Method.{Method}
-use Rattle.jo_prog.specs.declared.program.Code.{Code}
 use Rattle.jo_prog.specs.Program.{method_at}
 use Rattle.jo_prog.specs.TypingPaths.{Typable, IsTypable, HasHeightAt}
 use Rattle.jvm_typing.specs.Searches.{height_at, AreHeights}

@@ -1,24 +1,24 @@
 -- What is found of kinds is what typing paths bring.
-use Rattle.std.proofs.Common.{◌≡◌, ◌⊎◌, ◌↔◌, ℕ, zero, suc, ◌+◌, ◌-◌, ◌<◌, ◌≤◌, Bool, true, false, List, [], ◌∷◌, ◌++◌, length, map, get_or, take, replicate, Option, Some, None, Contains, refl, sym, ◌∙◌, ap, subst, inl, inr, arith, append-nil}
+use Rattle.std.proofs.Common.{◌≡◌, ◌↔◌, ℕ, ◌+◌, ◌<◌, List, [], ◌∷◌, ◌++◌, length, get_or, replicate, Option, Some, None, Contains, refl, sym, ◌∙◌, ap, subst, arith, append-nil}
 use Rattle.std.specs.Prelude.{slice_get}
 use Rattle.std.proofs.lemmas.List.{length-set, length-append, length-replicate, length-take-le}
 use Rattle.std.proofs.lemmas.Option.{slice_get-get_or, slice_get_within, get_or_from_slice_get}
 use Rattle.jo_prog.specs.declared.program.Program.{Program}
 use Rattle.jo_prog.specs.declared.program.Row.{Row}
-use Rattle.jo_prog.specs.InsnTyping.{at_handler, receiver_kinds, param_kinds, shape_at_start}
+use Rattle.jo_prog.specs.InsnTyping.{receiver_kinds, param_kinds, shape_at_start}
 use Rattle.jo_prog.specs.MethodTypes.{method_desc_in}
 use Rattle.jo_prog.specs.Typing.{Kind, Unset, Shape}
 use Rattle.jo_prog.specs.Shapes.{changed, Origin, Effect, written, after, kind_from}
-use Rattle.jo_prog.specs.TypingPaths.{Typable, Step, arrives_at, height_of, shape_of, stepped, row_taken, effect_at, TakesStep, GoesOn, Prolongs, TypingPath}
+use Rattle.jo_prog.specs.TypingPaths.{Typable, Step, arrives_at, height_of, shape_of, stepped, row_taken, effect_at, TakesStep, TypingPath}
 use Rattle.jvm_typing.specs.declared.moves.Move.{Move}
 use Rattle.jvm_typing.specs.Searches.{height_at, height_behind, AreHeights}
 use Rattle.jvm_typing.specs.Moves.{LeavesFrom, IsMove}
-use Rattle.jvm_typing.specs.KindPasses.{flat, Item, Holds, Source, Fixed, FromPlace, Gives, Brings, row_at, row_source, step_source, frame_of, ClosedBelow, ClosedAt, ClosedFor, Starts, AreKinds}
-use Rattle.jvm_typing.proofs.PathSteps.{begins, heights_after, back}
+use Rattle.jvm_typing.specs.KindPasses.{flat, Item, Holds, Source, Fixed, FromPlace, Gives, Brings, row_at, row_source, step_source, frame_of, ClosedFor, Starts, AreKinds}
+use Rattle.jvm_typing.proofs.PathSteps.{back}
 use Rattle.jvm_typing.proofs.SearchPaths.{height_stepped}
-use Rattle.jvm_typing.proofs.ArrivalLemmas.{moves_on, goes_on_at, has_its_height, is_move, Leaves, leaves_with}
+use Rattle.jvm_typing.proofs.ArrivalLemmas.{moves_on, goes_on_at, has_its_height, is_move, leaves_with}
 use Rattle.jvm_typing.proofs.GrowLemmas.{item_is}
-use Rattle.jvm_typing.proofs.ShapeLemmas.{source_kind, IsThere, Fits, Comes, plain_comes, handler_comes}
+use Rattle.jvm_typing.proofs.ShapeLemmas.{source_kind, IsThere, Comes, plain_comes, handler_comes}
 
 -- ---- the locals of a path's shape are as many as the method has
 

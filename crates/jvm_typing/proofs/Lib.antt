@@ -21,4 +21,9 @@ pub mod SourceLemmas
 pub mod GrowLemmas
 pub mod ShapeLemmas
 pub mod KindLemmas
+pub mod FlowLemmas
 pub mod StartLemmas
+pub mod AskLemmas
+pub mod KindFaultLemmas
+pub mod FailLemmas
+pub mod FirstAnswerLemmas

@@ -1,12 +1,12 @@
 -- Where the code goes on from a pc.
-use Rattle.std.proofs.Common.{◌≡◌, ◌⊎◌, ◌↔◌, ℕ, zero, suc, ◌+◌, ◌<◌, ◌≤◌, Bool, true, false, ltb, List, [], ◌∷◌, ◌++◌, length, map, get_or, take, Option, Some, None, Contains, refl, sym, ◌∙◌, ap, subst, inl, inr, arith}
+use Rattle.std.proofs.Common.{◌≡◌, ◌⊎◌, ◌↔◌, ℕ, zero, suc, ◌<◌, Bool, true, false, ltb, List, [], ◌∷◌, ◌++◌, length, Option, Some, None, Contains, refl, sym, ◌∙◌, ap, subst, inl, inr, arith}
 use Rattle.std.specs.Prelude.{ℤ, pos, slice_get}
 use Rattle.std.proofs.lemmas.Bool.{ltb-true, ltb-false}
 use Rattle.std.proofs.lemmas.List.{get_or_past}
 use Rattle.jo_prog.specs.declared.program.Program.{Program}
 use Rattle.jo_prog.specs.declared.program.Row.{Row}
 use Rattle.jo_prog.specs.InsnTyping.{covers}
-use Rattle.jo_prog.specs.TypingPaths.{Typable, effect_at, successors_at, height_after, ends_at, IsHandler, TakesStep}
+use Rattle.jo_prog.specs.TypingPaths.{Typable, ends_at, TakesStep}
 use Rattle.jvm_typing.specs.declared.moves.Move.{Move}
 use Rattle.jvm_typing.specs.declared.spots.Onward.{Onward}
 use Rattle.jvm_typing.specs.Spots.{GoesOnward}

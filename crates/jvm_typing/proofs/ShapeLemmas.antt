@@ -1,18 +1,14 @@
 -- The kinds of places behind a step, by where they come from.
-use Rattle.std.proofs.Common.{◌≡◌, ◌⊎◌, ℕ, zero, suc, ◌+◌, ◌-◌, ◌<◌, ◌≤◌, ◌≢◌, Bool, true, false, ltb, eqb, cond, List, [], ◌∷◌, ◌++◌, length, map, get_or, set, take, drop, replicate, Option, Some, None, refl, sym, ◌∙◌, ap, subst, inl, inr, arith, append-nil}
+use Rattle.std.proofs.Common.{◌≡◌, ℕ, zero, suc, ◌+◌, ◌-◌, ◌<◌, ◌≤◌, ◌≢◌, Bool, true, false, cond, List, [], ◌∷◌, ◌++◌, length, map, get_or, set, drop, Option, Some, None, refl, sym, ◌∙◌, ap, arith}
 use Rattle.std.specs.Prelude.{◌==◌, nat_lt, slice_get}
 use Rattle.std.proofs.lemmas.Bool.{ltb-true, ltb-false}
-use Rattle.std.proofs.lemmas.List.{length-set, length-append, length-replicate, length-map, length-drop, get_or_append_left, get_or-append_right, get_or-append-add, get_or-set_same, get_or-set_other, get_or-drop, get_or_past, length-take-le}
-use Rattle.std.proofs.lemmas.Option.{slice_get-get_or, slice_get_within}
+use Rattle.std.proofs.lemmas.List.{length-set, length-map, get_or_append_left, get_or-append_right, get_or-append-add, get_or-set_same, get_or-set_other, get_or-drop, get_or_past}
 use Rattle.jo_prog.specs.declared.program.Program.{Program}
-use Rattle.jo_prog.specs.declared.program.Method.{Method}
 use Rattle.jo_prog.specs.declared.program.Row.{Row}
-use Rattle.jo_prog.specs.InsnTyping.{caught, at_handler, receiver_kinds, param_kinds, locals_at_start}
-use Rattle.jo_prog.specs.MethodTypes.{method_desc_in}
+use Rattle.jo_prog.specs.InsnTyping.{caught, at_handler}
 use Rattle.jo_prog.specs.Typing.{Kind, Ref, Unset, Shape}
-use Rattle.jo_prog.specs.Shapes.{Change, Same, changed, Origin, Always, OfStack, OfLocal, Effect, kind_from, written, after}
-use Rattle.jo_prog.specs.TypingPaths.{Typable, Step, arrives_at, shape_of, stepped, row_taken, effect_at}
-use Rattle.jvm_typing.specs.KindPasses.{flat, Source, Fixed, FromPlace, Frame, origin_source, written_source, pushed_source, plain_source, handler_source, row_source}
+use Rattle.jo_prog.specs.Shapes.{Same, changed, Origin, Always, OfStack, OfLocal, Effect, kind_from, written, after}
+use Rattle.jvm_typing.specs.KindPasses.{flat, Source, Fixed, FromPlace, Frame, origin_source, written_source, pushed_source, plain_source, handler_source}
 
 abbrev pub source_kind : Program → Shape → Source → Kind
 source_kind program s (Fixed kind) = kind

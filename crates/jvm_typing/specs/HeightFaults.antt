@@ -1,7 +1,6 @@
 -- The first fault that the heights of paths tell (this project's own).
 use Rattle.std.specs.Prelude.{◌≡◌, ℕ, ◌≤◌, Option, Some, None}
 use Rattle.jo_prog.specs.declared.program.Program.{Program}
-use Rattle.jo_prog.specs.declared.typed.TypeCode.{TypeCode}
 use Rattle.jo_prog.specs.declared.typed.TypeCode.TheVariants.{WrongKind}
 use Rattle.jo_prog.specs.declared.typed.TypeFault.{TypeFault}
 use Rattle.jo_prog.specs.TypingPaths.{MeetsFault}

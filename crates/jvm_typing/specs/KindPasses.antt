@@ -1,5 +1,5 @@
 -- Which kinds places may hold, and how they spread along the steps of the code (this project's own).
-use Rattle.std.specs.Prelude.{◌≡◌, ◌↔◌, ◌⊎◌, ℕ, suc, ◌+◌, ◌-◌, ◌<◌, Bool, true, false, not, ◌||◌, ◌==◌, nat_lt, if◌then◌else◌, List, [], ◌∷◌, ◌++◌, map, length, drop, Contains, Option, Some, None, slice_get, slice_index_or}
+use Rattle.std.specs.Prelude.{◌≡◌, ◌↔◌, ◌⊎◌, ℕ, ◌+◌, ◌-◌, ◌<◌, Bool, false, ◌==◌, nat_lt, if◌then◌else◌, List, ◌++◌, map, length, Contains, Option, Some, None, slice_get}
 use Rattle.jo_prog.specs.declared.program.Program.{Program}
 use Rattle.jo_prog.specs.declared.program.Row.{Row}
 use Rattle.jo_prog.specs.InsnTyping.{caught, shape_at_start}

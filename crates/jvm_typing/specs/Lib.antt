@@ -13,3 +13,4 @@ pub mod Forms
 pub mod Effects
 pub mod KindPasses
 pub mod Sources
+pub mod KindFaults

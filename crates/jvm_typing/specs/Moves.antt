@@ -1,9 +1,9 @@
 -- Where the code goes on from the pcs that typing paths reach, and which heights arrive at a pc (this project's own).
-use Rattle.std.specs.Prelude.{◌≡◌, ◌⊎◌, ℕ, Bool, true, false, not, if◌then◌else◌, nat_lt, ◌==◌, List, Contains, Option, Some, None, slice_get}
+use Rattle.std.specs.Prelude.{◌≡◌, ◌⊎◌, ℕ, Bool, true, false, not, if◌then◌else◌, ◌==◌, List, Option, Some, None, slice_get}
 use Rattle.jo_prog.specs.declared.program.Program.{Program}
 use Rattle.jo_prog.specs.declared.program.Row.{Row}
 use Rattle.jo_prog.specs.declared.typed.TypeCode.{TypeCode}
-use Rattle.jo_prog.specs.declared.typed.TypeCode.TheVariants.{Underflow, Overflow, HeightDiffers, WrongKind, FallsOff, LocalRange, Memory}
+use Rattle.jo_prog.specs.declared.typed.TypeCode.TheVariants.{Underflow, Overflow, HeightDiffers, FallsOff, LocalRange}
 use Rattle.jo_prog.specs.declared.typed.TypeFault.{TypeFault}
 use Rattle.jo_prog.specs.InsnTyping.{covers}
 use Rattle.jo_prog.specs.TypingPaths.{Typable, ends_at, underflows, overflows, falls_off, out_of_range, TakesStep}

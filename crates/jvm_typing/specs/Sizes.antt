@@ -1,5 +1,5 @@
 -- What of an instruction's effect decides about heights and locals (this project's own).
-use Rattle.std.specs.Prelude.{ℕ, ◌+◌, ◌-◌, length, Option, option_map}
+use Rattle.std.specs.Prelude.{ℕ, ◌+◌, ◌-◌, length, option_map}
 use Rattle.jo_prog.specs.Shapes.{Need, Origin, Effect}
 use Rattle.jvm_typing.specs.declared.sizes.Size.{Size}
 

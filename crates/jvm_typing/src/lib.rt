@@ -3,11 +3,14 @@
 //! `laws` has what holds of the typing paths themselves.
 #![tactic(auto)]
 
+mod asks;
 mod effects;
 mod facts;
 mod faults;
+mod flows;
 mod forms;
 mod heights;
+mod kind_faults;
 mod kinds;
 pub mod laws;
 mod marks;
@@ -18,5 +21,7 @@ mod sources;
 mod spots;
 mod starts;
 mod subjects;
+mod typing_methods;
 
 pub use heights::{first_height_fault, heights_of};
+pub use typing_methods::type_method;

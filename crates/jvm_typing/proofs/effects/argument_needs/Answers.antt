@@ -1,4 +1,4 @@
-use Rattle.std.proofs.Common.{rules, ◌≡◌, ◌∙◌, ap, map, take, List, subst}
+use Rattle.std.proofs.Common.{rules, ◌≡◌, ◌∙◌, ap, map, List}
 use Rattle.std.specs.Prelude.{reverse}
 use Rattle.std.proofs.lemmas.List.{take_all}
 use Rattle.jo_text.specs.declared.descriptors.FieldDesc.{FieldDesc}

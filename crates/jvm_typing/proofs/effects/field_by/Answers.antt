@@ -1,4 +1,4 @@
-use Rattle.std.proofs.Common.{◌≡◌, ℕ, List, refl, subst, ap, ◌∙◌}
+use Rattle.std.proofs.Common.{ℕ, List, subst, ap, ◌∙◌}
 use Rattle.jo_prog.specs.Typing.{Kind}
 use Rattle.jo_prog.specs.InsnTyping.{field_effect}
 use Rattle.jo_text.specs.Descriptors.{SpellsField, IsFieldDesc}

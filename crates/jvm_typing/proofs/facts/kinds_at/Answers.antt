@@ -1,4 +1,4 @@
-use Rattle.std.proofs.Common.{rules, ◌≡◌, [], List, map, Contains, sym, subst}
+use Rattle.std.proofs.Common.{[], List, map, Contains, sym, subst}
 use Rattle.jo_prog.specs.Typing.{Kind}
 use Rattle.jvm_typing.specs.declared.facts.Fact.{Fact}
 use Rattle.jvm_typing.specs.declared.kinds.Kind.{Kind as KindHere}

@@ -1,4 +1,4 @@
-use Rattle.std.proofs.Common.{rules, ◌≡◌, Contains, None, subst, sym, Option}
+use Rattle.std.proofs.Common.{rules, Contains, subst, Option}
 use Rattle.jo_prog.specs.declared.typed.TypeCode.{TypeCode}
 use Rattle.jvm_typing.specs.Adds.{Adds}
 use Rattle.jvm_typing.specs.Moves.{Tells}

@@ -1,4 +1,4 @@
-use Rattle.std.proofs.Common.{◌≡◌, List, subst, refl}
+use Rattle.std.proofs.Common.{List, subst, refl}
 use Rattle.std.proofs.lemmas.List.{take_all}
 use Rattle.jo_prog.specs.declared.typed.TypeFault.{TypeFault}
 use Rattle.jo_prog.specs.declared.typed.TypeCode.TheVariants.{Underflow}

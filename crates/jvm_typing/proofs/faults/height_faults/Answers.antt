@@ -1,4 +1,4 @@
-use Rattle.std.proofs.Common.{◌≡◌, Contains, None, List, [], sym, subst}
+use Rattle.std.proofs.Common.{Contains, None, List, subst}
 use Rattle.jo_prog.specs.declared.typed.TypeFault.{TypeFault}
 use Rattle.jvm_typing.specs.Adds.{Adds}
 use Rattle.jvm_typing.specs.Moves.{FaultAt, FaultBehind}

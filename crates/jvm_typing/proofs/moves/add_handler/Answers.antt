@@ -1,4 +1,4 @@
-use Rattle.std.proofs.Common.{rules, ◌≡◌, Contains}
+use Rattle.std.proofs.Common.{rules, Contains}
 use Rattle.jvm_typing.proofs.MoveLemmas.{no_row, not_over, handler_added}
 use Rattle.jvm_typing.proofs.moves.add_handler.Goals as goal
 
