@@ -56,6 +56,7 @@ instance_named program name desc c m found = by_own (own_method program name des
     by_static : (k : ℕ) (b : Bool) → own_method program name desc c ≡ Some k → cond b None (Some k) ≡ Some m → IsNamed program m name desc
     by_static k true own found = absurd (none-some m found)
     by_static k false own found = subst (λ n. IsNamed program n name desc) (same_Some k m found) (own_named program name desc c k own)
+
     by_own : (o : Option ℕ) → own_method program name desc c ≡ o → option_and_then (unless_static program) o ≡ Some m → IsNamed program m name desc
     by_own None own found = absurd (none-some m found)
     by_own (Some k) own found = by_static k (is_static_method (method_at program k)) own found
@@ -128,10 +129,12 @@ special_named program current m name desc named is = by_method (method_at progra
         → is_start (taken_from program (option_and_then (λ c. search_from program c method.name method.desc) c)) ≡ true → is_named_start name desc ≡ true
     by_super method None named is = absurd (false≢true is)
     by_super method (Some c) named is = by_search program m c name desc method named is
+
     by_test : (method : Method) (b : Bool) → method_at program m ≡ Some method → has_signature name desc (Some method) ≡ true
         → is_start (taken_from program (cond b (Some m) (option_and_then (λ c. search_from program c method.name method.desc) (superclass_at program current)))) ≡ true → is_named_start name desc ≡ true
     by_test method true at named is = taken_named program m name desc (subst (λ o. has_signature name desc o ≡ true) (sym at) named) is
     by_test method false at named is = by_super method (superclass_at program current) named is
+
     by_method : (o : Option Method) → method_at program m ≡ o → has_signature name desc o ≡ true → is_start (taken_from program (special_in program current m o)) ≡ true → is_named_start name desc ≡ true
     by_method None at named is = absurd (false≢true named)
     by_method (Some method) at named is = by_test method (is_taken_as_resolved current method) at named is
@@ -162,13 +165,16 @@ no_start program op current named name desc other = by_found (resolve_method pro
   where
     none_for : (m : ℕ) → IsNamed program m name desc → (k : ℕ) → is_start (takes program op current m k) ≡ false
     none_for m is k = false_unless (is_start (takes program op current m k)) (is_named_start name desc) (takes_named program op current m k name desc is) other
+
     with_false : (b c : Bool) → c ≡ false → (b && c) ≡ false
     with_false true c e = e
     with_false false c e = refl
+
     by_op : (m : ℕ) (one : Bool) → IsNamed program m name desc
         → cond one (is_start (takes program op current m named)) (list_any (starts_for program op current named m) (class_numbers program)) ≡ false
     by_op m true is = none_for m is named
     by_op m false is = any_none (starts_for program op current named m) (class_numbers program) (λ k. with_false (is_subtype program k named) _ (none_for m is k))
+
     by_found : (o : Option ℕ) → resolve_method program named name desc ≡ o → may_start_by program op current named o ≡ false
     by_found None found = refl
     by_found (Some m) found = by_op m (op == 183 || op == 184) (resolved_named program named name desc m found)
@@ -182,9 +188,11 @@ any_filtered p q (x ∷ xs) = by_test (q x) (any_filtered p q xs)
     added : (c : Bool) (one other : Bool) → one ≡ other → (c || one) ≡ ((c && true) || other)
     added true one other more = refl
     added false one other more = more
+
     passed : (c : Bool) (one other : Bool) → one ≡ other → one ≡ ((c && false) || other)
     passed true one other more = more
     passed false one other more = more
+
     by_test : (b : Bool) → list_any p (filter q xs) ≡ list_any (λ k. p k && q k) xs
         → list_any p (cond b (x ∷ filter q xs) (filter q xs)) ≡ ((p x && b) || list_any (λ k. p k && q k) xs)
     by_test true more = added (p x) (list_any p (filter q xs)) (list_any (λ k. p k && q k) xs) more
@@ -204,6 +212,7 @@ selects_alike program k m named = by_method (method_at program m) named
     by_names method name desc =
         ap (λ (n : List ℕ). is_start (taken_from program (search_from program k n method.desc))) name
         ∙ ap (λ (d : List ℕ). is_start (taken_from program (search_from program k (codes "start") d))) desc
+
     by_method : (o : Option Method) → has_signature (codes "start") (codes "()V") o ≡ true
         → is_start (taken_from program (option_and_then (λ (method : Method). search_from program k method.name method.desc) o)) ≡ is_start (taken_from program (search_from program k (codes "start") (codes "()V")))
     by_method None named = absurd (false≢true named)

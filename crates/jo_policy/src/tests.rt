@@ -1,8 +1,8 @@
 //! Policies and run files of one small program.
 use crate::{LevelFault, PolicyFault, RunFileFault, read_run, whole};
+use hierarchy::{Hierarchy, has_its_parents};
 use jo_ids::{Id, List, Memory};
 use jo_prog::lists::add;
-use hierarchy::{Hierarchy, has_its_parents};
 use jo_prog::program::{Class, Code, MemberRef, Method, Operand, Program, TypeRef};
 use jo_text::Name;
 use std::alloc::Global;
@@ -128,10 +128,7 @@ fn with_call(
     other.flags = 1;
     add(&mut methods, other)?;
     let mut classes = List::new(alloc);
-    add(
-        &mut classes,
-        class(alloc, "java/lang/Object", None, &[])?,
-    )?;
+    add(&mut classes, class(alloc, "java/lang/Object", None, &[])?)?;
     add(
         &mut classes,
         class(alloc, "java/lang/String", Some(0), &[])?,
@@ -234,12 +231,10 @@ fn is_told_of(
     code: u32,
     text: &str,
 ) -> Result<bool, Memory> {
-    Ok(
-        match read(alloc, program, policy) {
-            Ok(_) => code == 0,
-            Err(fault) => code_of(&fault) == code && text_of(&fault) == text.as_bytes(),
-        },
-    )
+    Ok(match read(alloc, program, policy) {
+        Ok(_) => code == 0,
+        Err(fault) => code_of(&fault) == code && text_of(&fault) == text.as_bytes(),
+    })
 }
 
 fn is_told(alloc: Global, head: &str, tables: &str, code: u32, text: &str) -> Result<bool, Memory> {
@@ -320,10 +315,27 @@ fn levels_are_told_in_order(rt: HostRuntime) -> Result<(), Fail> {
     let unknown =
         "levels = ['a', 'b']\nflows = [['a', 'b'], ['b', 'a']]\nentry = 'e'\n[sinks]\nm = 'c'\n";
     assert!(rt; is_told(alloc, unknown, "", 3, "c")?);
-    assert!(rt; is_told(alloc, "levels = ['a', 'b']\nobservers = ['a', '']\nentry = 'e'\n", "", 3, "")?);
-    let pair = "levels = ['a', 'b', 'c']\nflows = [['a', 'c'], ['b', 'c'], ['c', 'b']]\nentry = 'e'\n";
+    assert!(rt;
+        is_told(
+            alloc,
+            "levels = ['a', 'b']\nobservers = ['a', '']\nentry = 'e'\n",
+            "",
+            3,
+            ""
+        )?
+    );
+    let pair =
+        "levels = ['a', 'b', 'c']\nflows = [['a', 'c'], ['b', 'c'], ['c', 'b']]\nentry = 'e'\n";
     assert!(rt; is_told(alloc, pair, "", 4, "b")?);
-    assert!(rt; is_told(alloc, "levels = ['b', '', 'b']\nflows = [['b', 'c']]\nentry = 'e'\n", "", 4, "b")?);
+    assert!(rt;
+        is_told(
+            alloc,
+            "levels = ['b', '', 'b']\nflows = [['b', 'c']]\nentry = 'e'\n",
+            "",
+            4,
+            "b"
+        )?
+    );
     let cycle =
         "levels = ['a', 'b', 'c']\nflows = [['c', 'b'], ['b', 'a'], ['a', 'c']]\nentry = 'e'\n[sinks]\nm = 'c'\n";
     assert!(rt; is_told(alloc, cycle, "", 4, "a")?);
@@ -417,19 +429,17 @@ const RELEASE: &str =
 /// call that may start a thread.
 fn told_of_call(alloc: Global, op: u8, owner: u32, called: &str) -> Result<(u32, u32), Memory> {
     let program = with_call(alloc, "(I)I", op, owner, called)?;
-    Ok(
-        match read(alloc, &program, RELEASE.as_bytes()) {
-            Ok(_) => (0, 0),
-            Err(PolicyFault::ReleaseWithThreads(method, pc)) => {
-                if method.number() == 2 {
-                    (10, pc)
-                } else {
-                    (10, 99)
-                }
+    Ok(match read(alloc, &program, RELEASE.as_bytes()) {
+        Ok(_) => (0, 0),
+        Err(PolicyFault::ReleaseWithThreads(method, pc)) => {
+            if method.number() == 2 {
+                (10, pc)
+            } else {
+                (10, 99)
             }
-            Err(fault) => (code_of(&fault), 0),
-        },
-    )
+        }
+        Err(fault) => (code_of(&fault), 0),
+    })
 }
 
 #[test]

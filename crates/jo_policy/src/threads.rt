@@ -142,8 +142,12 @@ fn member_may_start(
         return false;
     }
     let named = receiver_class(&member.owner);
-    let found =
-        hierarchy.resolve(program, named, member.name.as_slice(), member.desc.as_slice());
+    let found = hierarchy.resolve(
+        program,
+        named,
+        member.name.as_slice(),
+        member.desc.as_slice(),
+    );
     match found {
         Some(method) => may_start_by(program, hierarchy, threads, op, current, named, method),
         None => false,
@@ -259,7 +263,14 @@ fn first_start(
     let threads = thread_classes(alloc, program, hierarchy)?;
     let classes = threads.as_slice();
     for (i, method) in program.methods.as_slice().iter().enumerate() {
-        let found = first_start_in(alloc, program, hierarchy, classes, method.class, method.code.as_ref())?;
+        let found = first_start_in(
+            alloc,
+            program,
+            hierarchy,
+            classes,
+            method.class,
+            method.code.as_ref(),
+        )?;
         if let Some(pc) = found {
             return Ok(Some((Id::of(i as u32), pc)));
         }

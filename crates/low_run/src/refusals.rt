@@ -8,10 +8,10 @@ ghost use Rattle.low_run.specs.LevelFlows.{KeepsFlows};
 ghost use Rattle.low_run.specs.Verdict.{label_resolved, CleanForAll, Reports};
 ghost use Rattle.low_run.specs.Sides.{is_on, places_from, hidden_nodes, observed_nodes, IsForbiddenWalk};
 
+use crate::level_flows::{flows, rows_of};
 use chain_report::report;
 use dep_nodes::{Chain, Graph, NodeKind, NodeName};
 use flow_graph::slicer;
-use crate::level_flows::{flows, rows_of};
 use jo_ids::{LevelId, MethodId, NodeId};
 use jo_order::Levels;
 use jo_prog::labels::{self, Label, Labels};
