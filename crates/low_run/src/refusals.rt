@@ -157,6 +157,28 @@ fn chain_for(
     slicer::find_walk(alloc, graph, hidden.as_slice(), observed.as_slice())
 }
 
+/// The same as `refusal`, by the rows of the levels.
+fn refusal_by(
+    alloc: Global,
+    program: &Program,
+    labels: &Labels,
+    rows: &Option<Levels>,
+    graph: &Graph,
+) -> Result<Option<Vec<u8>>, Memory>
+    requires flows { KeepsFlows labels.now rows.now }
+    requires graph { IsDependenceGraph program.now labels.now graph.now }
+    ensures clean { IfOk result (λ o. IfNone o (CleanForAll graph.now labels.now)) }
+    ensures report { IfOk result (λ o. IfSome o (λ text. Reports program.now labels.now graph.now text.items)) }
+{
+    for observer in labels.observers.as_slice() {
+        if let Some(chain) = chain_for(alloc, labels, rows, graph, *observer)? {
+            let text = report(alloc, program, labels, graph, *observer, &chain)?;
+            return Ok(Some(text));
+        }
+    }
+    Ok(None)
+}
+
 /// The report for the first observer that has an illegal chain. None where the graph is clean for each.
 pub fn refusal(
     alloc: Global,
@@ -169,11 +191,5 @@ pub fn refusal(
     ensures report { IfOk result (λ o. IfSome o (λ text. Reports program.now labels.now graph.now text.items)) }
 {
     let rows = rows_of(alloc, labels)?;
-    for observer in labels.observers.as_slice() {
-        if let Some(chain) = chain_for(alloc, labels, &rows, graph, *observer)? {
-            let text = report(alloc, program, labels, graph, *observer, &chain)?;
-            return Ok(Some(text));
-        }
-    }
-    Ok(None)
+    refusal_by(alloc, program, labels, &rows, graph)
 }

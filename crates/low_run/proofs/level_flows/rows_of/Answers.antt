@@ -4,4 +4,4 @@ use Rattle.jo_policy.proofs.PolicyOrders.{same_flows}
 use Rattle.low_run.proofs.level_flows.rows_of.Goals as goal
 
 pub returns-in-Ok : goal.returns-in-Ok
-returns-in-Ok c = λ a b. same_flows c.as_slice-2.result.now c.in-Ok.rows c.build.ensures.flows a b ∙ ap (λ (ps : List (ℕ × ℕ)). flows_by ps a b) c.as_slice-2.ensures
+returns-in-Ok c = λ a b. same_flows c.as_slice-pairs.result.now c.in-Ok.rows c.in-Ok.ensures.flows a b ∙ ap (λ (ps : List (ℕ × ℕ)). flows_by ps a b) c.as_slice-pairs.ensures
