@@ -9,5 +9,6 @@ pub mod PolicyOrders
 pub mod PolicyMakes
 pub mod OrderedLevels
 pub mod WholeLabels
+pub mod StartLemmas
 pub mod PolicyAnswers
 pub mod RunAnswers

@@ -15,6 +15,7 @@ use Rattle.jo_policy.specs.declared.numbering.NumberedLabel.{NumberedLabel}
 use Rattle.jo_policy.specs.FileMethods.{entry_named}
 use Rattle.jo_policy.specs.Labelling.{Item, placed_by, labelled_of, first_twice, first_misshapen, first_unlabelled, first_upward, unlabelled_from, table_at, table_of, ordered_from}
 use Rattle.jo_policy.specs.Policies.{labels_of, labels_with}
+use Rattle.jo_policy.specs.Threads.{start_beside, with_threads}
 use Rattle.jo_policy.proofs.PolicyOrders.{same_flow}
 use Rattle.jo_policy.proofs.Tables.{unlabelled_in}
 
@@ -24,8 +25,13 @@ same_labelled program pairs order labels by = ap (λ (f : ℕ → ℕ → Bool).
 
 pub labels_made : (program : Program) (written : WrittenPolicy) (numbered : NumberedPolicy) (order : Levels) (labelled : List Item) (entry : ℕ) → FlowsBy numbered.flows order
     → labelled_of (flows order) program numbered.labels ≡ Ok labelled → or_fault Entry (entry_named program written.entry) ≡ Ok entry
-    → labels_of program written numbered ≡ Ok (labels_with written numbered entry labelled)
-labels_made program written numbered order labelled entry by is found = rw (same_labelled program numbered.flows order numbered.labels by, is, found) refl
+    → refused with_threads (start_beside labelled program) ≡ Ok tt → labels_of program written numbered ≡ Ok (labels_with written numbered entry labelled)
+labels_made program written numbered order labelled entry by is found apart = rw (same_labelled program numbered.flows order numbered.labels by, is, found, apart) refl
+
+pub threads_stop : (program : Program) (written : WrittenPolicy) (numbered : NumberedPolicy) (order : Levels) (labelled : List Item) (entry : ℕ) (fault : PolicyFault) → FlowsBy numbered.flows order
+    → labelled_of (flows order) program numbered.labels ≡ Ok labelled → or_fault Entry (entry_named program written.entry) ≡ Ok entry
+    → refused with_threads (start_beside labelled program) ≡ Err fault → labels_of program written numbered ≡ Err fault
+threads_stop program written numbered order labelled entry fault by is found beside = rw (same_labelled program numbered.flows order numbered.labels by, is, found, beside) refl
 
 pub labels_stop : (program : Program) (written : WrittenPolicy) (numbered : NumberedPolicy) (order : Levels) (fault : PolicyFault) → FlowsBy numbered.flows order
     → labelled_of (flows order) program numbered.labels ≡ Err fault → labels_of program written numbered ≡ Err fault

@@ -36,6 +36,7 @@ use Rattle.jo_policy.specs.Labelling.{Item, placed_by, labelled_of, first_twice,
 use Rattle.jo_policy.specs.Numbering.{level_named, levels_numbered, observers_numbered, label_numbered, labels_numbered, pairs_numbered, numbered_of}
 use Rattle.jo_policy.specs.PolicyFile.{place_from, fits_label, with_label}
 use Rattle.jo_policy.specs.Policies.{labels_of, labels_with}
+use Rattle.jo_policy.specs.Threads.{start_beside, with_threads}
 use Rattle.jo_policy.proofs.OrderedLevels.{names_apart, no_mutual, pairs_known}
 use Rattle.jo_policy.proofs.PolicyLabels.{Ascends, ascends_before, in_order}
 use Rattle.jo_policy.proofs.PolicyParts.{if_then_some, place_from-below, count_from-below}
@@ -343,17 +344,22 @@ native_found flows program labels labelled made m method found files native =
     sym (table_at-among (length program.methods) made.placed m below) ∙ sym (label_in_order (table_of (length program.methods) made.placed) m) ∙ ap (λ ls. label_among ls m) made.is in
     subst (λ (o : Option Label). IsSome o) same there
 
+releases_alone : (program : Program) (labelled : List Item) (b : Bool) → list_any is_release labelled ≡ b → start_beside labelled program ≡ None → b ≡ true → first_start program ≡ None
+releases_alone program labelled true e none is = sym (ap (λ b. cond b (first_start program) None) e) ∙ none
+releases_alone program labelled false e none is = absurd (false≢true is)
+
 pub whole_labels : (program : Program) (written : WrittenPolicy) (numbered : NumberedPolicy) (labels : Labels) → GiveOrder written.levels numbered.flows → numbered_of written ≡ Ok numbered
-    → labels_of program written numbered ≡ Ok labels → (list_any is_release labels.labelled ≡ true → first_start program ≡ None) → IsWellLabelled program labels
-whole_labels program written numbered labels order known e alone =
+    → labels_of program written numbered ≡ Ok labels → IsWellLabelled program labels
+whole_labels program written numbered labels order known e =
     let there = numbers_there written numbered known in
     let (labelled, is_labelled, e1) = bind_ok (labelled_of (flows_by numbered.flows) program numbered.labels) _ labels e in
     let (entry, is_entry, e2) = bind_ok (or_fault Entry (entry_named program written.entry)) _ labels e1 in
+    let (u, apart, e3) = bind_ok (refused with_threads (start_beside labelled program)) _ labels e2 in
     let made = made_of (flows_by numbered.flows) program numbered.labels labelled is_labelled in
     let made_labels = labels_with written numbered entry labelled in
     let fit = placed_fit (length written.levels) (flows_by numbered.flows) program numbered.labels labelled made there.labels in
     let fit_in_order = ordered_holds (Fits program (length written.levels) (flows_by numbered.flows)) made.placed 0 (length program.methods) fit in
-    let same : made_labels ≡ labels = same_ok made_labels labels e2 in
+    let same : made_labels ≡ labels = same_ok made_labels labels e3 in
     subst (IsWellLabelled program) same (record {
       distinct = names_apart written.levels order.distinct;
       few = order.few;
@@ -367,5 +373,5 @@ whole_labels program written numbered labels order known e alone =
       in_order = subst (λ (items : List Item). IsStrictlyIncreasing (map (λ (item : Item). item.0) items)) made.is
           (in_order (ordered_from 0 (table_of (length program.methods) made.placed)) (ordered_ascends 0 (table_of (length program.methods) made.placed)));
       each_native = native_found (flows_by numbered.flows) program numbered.labels labelled made;
-      releases = subst (λ (made : Labels). list_any is_release made.labelled ≡ true → first_start program ≡ None) (sym same) alone;
+      releases = releases_alone program labelled (list_any is_release labelled) refl (refused_ok with_threads (start_beside labelled program) u apart);
     })

@@ -2,6 +2,8 @@ pub mod PolicyFile
 pub mod Numbering
 pub mod FileMethods
 pub mod Labelling
+pub mod Threads
 pub mod Policies
 pub mod RunFiles
+pub mod Schedules
 pub mod LabelTables

@@ -16,12 +16,13 @@ use Rattle.policy_tree.specs.declared.faults.PolicyFault.{PolicyFault}
 use Rattle.policy_tree.specs.declared.faults.PolicyFault.TheVariants.{NotToml, Order, Entry, Memory}
 use Rattle.policy_tree.specs.declared.written.ContextsKey.{ContextsKey}
 use Rattle.policy_tree.specs.declared.written.WrittenPolicy.{WrittenPolicy}
-use Rattle.policy_tree.specs.Outcomes.{◌>>=◌, or_fault}
+use Rattle.policy_tree.specs.Outcomes.{◌>>=◌, or_fault, refused}
 use Rattle.policy_tree.specs.PolicyTree.{Read, written_of}
 use Rattle.jo_policy.specs.declared.numbering.NumberedPolicy.{NumberedPolicy}
 use Rattle.jo_policy.specs.FileMethods.{entry_named}
 use Rattle.jo_policy.specs.Labelling.{labelled_of}
 use Rattle.jo_policy.specs.Numbering.{numbered_of}
+use Rattle.jo_policy.specs.Threads.{start_beside, with_threads}
 
 -- ---- the order of levels
 
@@ -53,18 +54,19 @@ labels_with written numbered entry labelled =
       labelled = labelled;
     }
 
--- the labels by numbers, or what is wrong with the labelled methods, or with the entry
+-- the labels by numbers, or what is wrong with the labelled methods, then with the entry, then a release beside a call that may start a
+-- thread
 abbrev pub labels_of : Program → WrittenPolicy → NumberedPolicy → Read Labels
 labels_of program written numbered = do
   labelled ← labelled_of (flows_by numbered.flows) program numbered.labels
   entry ← or_fault Entry (entry_named program written.entry)
+  nothing ← refused with_threads (start_beside labelled program)
   Ok (labels_with written numbered entry labelled)
 
 -- ---- the policy
 
--- What a tree says is a policy of the program, with these labels: no part has a fault. That a program with
--- releases starts no thread is not asked.
-pub record IsPolicyBeforeThreads (program : Program) (tree : Members) (labels : Labels) (contexts : ContextsKey) : Type 0 where
+-- What a tree says is a policy of the program, with these labels: no part has a fault.
+pub record IsPolicy (program : Program) (tree : Members) (labels : Labels) (contexts : ContextsKey) : Type 0 where
   pub written : WrittenPolicy
   pub said : written_of tree ≡ Ok written
   pub named : GiveOrder written.levels []
@@ -75,23 +77,22 @@ pub record IsPolicyBeforeThreads (program : Program) (tree : Members) (labels : 
   pub by_key : contexts ≡ written.contexts
 
 -- The first fault of a tree: a key; then the names of the levels, twice or too many; then a name that is no
--- level's; then levels that flow to each other; then the labelled methods and the entry, in the order of
--- `labelled_of`. A release in a program that starts threads, which comes after all of these, is not looked
--- for.
-pub data IsFaultBeforeThreads (program : Program) (tree : Members) (fault : PolicyFault) : Type 0 where
-  of_key : written_of tree ≡ Err fault → IsFaultBeforeThreads program tree fault
+-- level's; then levels that flow to each other; then the labelled methods, in the order of `labelled_of`, the entry,
+-- and a release beside a call that may start a thread.
+pub data IsPolicyFault (program : Program) (tree : Members) (fault : PolicyFault) : Type 0 where
+  of_key : written_of tree ≡ Err fault → IsPolicyFault program tree fault
   of_names : (written : WrittenPolicy) → written_of tree ≡ Ok written
-      → IsOrderFault written.levels [] fault → IsFaultBeforeThreads program tree fault
+      → IsOrderFault written.levels [] fault → IsPolicyFault program tree fault
   of_unknown : (written : WrittenPolicy) → written_of tree ≡ Ok written → GiveOrder written.levels []
-      → numbered_of written ≡ Err fault → IsFaultBeforeThreads program tree fault
+      → numbered_of written ≡ Err fault → IsPolicyFault program tree fault
   of_cycle : (written : WrittenPolicy) (numbered : NumberedPolicy) → written_of tree ≡ Ok written
       → GiveOrder written.levels [] → numbered_of written ≡ Ok numbered
-      → IsOrderFault written.levels numbered.flows fault → IsFaultBeforeThreads program tree fault
+      → IsOrderFault written.levels numbered.flows fault → IsPolicyFault program tree fault
   of_labels : (written : WrittenPolicy) (numbered : NumberedPolicy) → written_of tree ≡ Ok written
       → GiveOrder written.levels [] → numbered_of written ≡ Ok numbered
       → GiveOrder written.levels numbered.flows
       → labels_of program written numbered ≡ Err fault
-      → IsFaultBeforeThreads program tree fault
+      → IsPolicyFault program tree fault
 
 -- the tree of a text in TOML
 pub record IsTree (text : List ℕ) (tree : Members) : Type 0 where
@@ -99,11 +100,11 @@ pub record IsTree (text : List ℕ) (tree : Members) : Type 0 where
   pub parsed : parse_document text ≡ Some tree
 
 -- the first fault of a text
-pub data IsTextFaultBeforeThreads (program : Program) (text : List ℕ) (fault : PolicyFault) : Type 0 where
+pub data IsTextFault (program : Program) (text : List ℕ) (fault : PolicyFault) : Type 0 where
   no_tree : fault ≡ NotToml → ((tree : Members) → IsTree text tree → ⊥)
-      → IsTextFaultBeforeThreads program text fault
-  of_tree : (tree : Members) → IsTree text tree → IsFaultBeforeThreads program tree fault
-      → IsTextFaultBeforeThreads program text fault
+      → IsTextFault program text fault
+  of_tree : (tree : Members) → IsTree text tree → IsPolicyFault program tree fault
+      → IsTextFault program text fault
 
 -- ---- answers
 

@@ -8,6 +8,7 @@ mod ordering;
 mod reader;
 mod run_file;
 mod spellings;
+mod threads;
 pub mod whole;
 
 pub use policy_tree::{ContextsKey, LevelFault, PolicyFault, RunFileFault};

@@ -26,6 +26,21 @@ pub struct RunPlan {
     pub inputs: Inputs,
 }
 
+impl RunPlan {
+    ghost use Rattle.jo_policy.specs.Schedules.{picked};
+
+    /// The number of the schedule at a step, where steps count from 0.
+    pub fn picked(&self, step: u32) -> u32
+        ensures { result ≡ picked self.now.schedule step }
+    {
+        let schedule = self.schedule.as_slice();
+        if schedule.is_empty() {
+            return 0;
+        }
+        schedule[step as usize % schedule.len()]
+    }
+}
+
 /// The values of a source, each none where it is out of its range.
 #[derive(Drop)]
 pub struct PlacedInput {

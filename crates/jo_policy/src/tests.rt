@@ -1,8 +1,9 @@
 //! Policies and run files of one small program.
 use crate::{LevelFault, PolicyFault, RunFileFault, read_run, whole};
+use hierarchy::{Hierarchy, has_its_parents};
 use jo_ids::{Id, List, Memory};
 use jo_prog::lists::add;
-use jo_prog::program::{Class, Code, Method, Program};
+use jo_prog::program::{Class, Code, MemberRef, Method, Operand, Program, TypeRef};
 use jo_text::Name;
 use std::alloc::Global;
 use std::test::Fail;
@@ -34,6 +35,30 @@ fn method(alloc: Global, called: &str, desc: &str, code: Option<Code>) -> Result
     })
 }
 
+fn class(
+    alloc: Global,
+    called: &str,
+    superclass: Option<u32>,
+    methods: &[u32],
+) -> Result<Class, Memory> {
+    let mut numbers = List::new(alloc);
+    for method in methods {
+        add(&mut numbers, Id::of(*method))?;
+    }
+    Ok(Class {
+        name: name(alloc, called)?,
+        flags: 0,
+        superclass: match superclass {
+            Some(superclass) => Some(Id::of(superclass)),
+            None => None,
+        },
+        interfaces: List::new(alloc),
+        fields: List::new(alloc),
+        methods: numbers,
+        operands: List::new(alloc),
+    })
+}
+
 /// One class with a source, a sink, a release and two entries.
 fn program(alloc: Global) -> Result<Program, Memory> {
     let mut methods = List::new(alloc);
@@ -54,18 +79,73 @@ fn program(alloc: Global) -> Result<Program, Memory> {
         )?,
     )?;
     let mut classes = List::new(alloc);
+    add(&mut classes, class(alloc, "A", None, &[])?)?;
+    Program::build(alloc, classes, List::new(alloc), methods)
+}
+
+fn thread_member(alloc: Global, owner: u32, called: &str) -> Result<Operand, Memory> {
+    Ok(Operand::Member(MemberRef {
+        owner: TypeRef::Class(Id::of(owner)),
+        name: name(alloc, called)?,
+        desc: name(alloc, "()V")?,
+    }))
+}
+
+/// A class below Thread with a native method of this descriptor, and a method that calls a member of a class with this opcode. Class 0 is
+/// java/lang/Object, 3 Thread, 4 the class itself and 5 one with a method `start` of its own.
+fn with_call(
+    alloc: Global,
+    desc: &str,
+    op: u8,
+    owner: u32,
+    called: &str,
+) -> Result<Program, Memory> {
+    let mut methods = List::new(alloc);
+    let start = Method {
+        class: Id::of(3),
+        name: name(alloc, "start")?,
+        desc: name(alloc, "()V")?,
+        flags: 1,
+        code: None,
+    };
+    add(&mut methods, start)?;
+    let mut native = method(alloc, "r", desc, None)?;
+    native.class = Id::of(4);
+    add(&mut methods, native)?;
+    let mut bytes = Name::new(alloc);
+    bytes.append(&[0, op, 0, 1, 177])?;
+    let code = Code {
+        max_stack: 1,
+        max_locals: 1,
+        bytes,
+        rows: List::new(alloc),
+    };
+    let mut main = method(alloc, "main", "()V", Some(code))?;
+    main.class = Id::of(4);
+    add(&mut methods, main)?;
+    let mut other = method(alloc, "start", "()V", Some(empty_code(alloc)))?;
+    other.class = Id::of(5);
+    other.flags = 1;
+    add(&mut methods, other)?;
+    let mut classes = List::new(alloc);
+    add(&mut classes, class(alloc, "java/lang/Object", None, &[])?)?;
     add(
         &mut classes,
-        Class {
-            name: name(alloc, "A")?,
-            flags: 0,
-            superclass: None,
-            interfaces: List::new(alloc),
-            fields: List::new(alloc),
-            methods: List::new(alloc),
-            operands: List::new(alloc),
-        },
+        class(alloc, "java/lang/String", Some(0), &[])?,
     )?;
+    add(
+        &mut classes,
+        class(alloc, "java/lang/Runnable", Some(0), &[])?,
+    )?;
+    add(
+        &mut classes,
+        class(alloc, "java/lang/Thread", Some(0), &[0])?,
+    )?;
+    let mut own = class(alloc, "A", Some(3), &[1, 2])?;
+    add(&mut own.operands, Operand::Unused)?;
+    add(&mut own.operands, thread_member(alloc, owner, called)?)?;
+    add(&mut classes, own)?;
+    add(&mut classes, class(alloc, "B", Some(3), &[3])?)?;
     Program::build(alloc, classes, List::new(alloc), methods)
 }
 
@@ -128,19 +208,39 @@ fn joined(alloc: Global, head: &str, tables: &str) -> Result<Vec<u8>, Memory> {
     Ok(text)
 }
 
+/// What a policy's text gives to a program.
+fn read(alloc: Global, program: &Program, text: &[u8]) -> Result<whole::Policy, PolicyFault> {
+    let few = program.methods.as_slice().len() <= 100 && program.classes.as_slice().len() <= 100;
+    if !few || text.len() > 100_000 {
+        return Err(PolicyFault::Memory);
+    }
+    if !has_its_parents(program) {
+        return Err(PolicyFault::Memory);
+    }
+    let Ok(hierarchy) = Hierarchy::build(alloc, program) else {
+        return Err(PolicyFault::Memory);
+    };
+    whole::read_policy(alloc, text, program, &hierarchy)
+}
+
 /// Whether a policy's text is told this fault with this text, 0 where it has none.
+fn is_told_of(
+    alloc: Global,
+    program: &Program,
+    policy: &[u8],
+    code: u32,
+    text: &str,
+) -> Result<bool, Memory> {
+    Ok(match read(alloc, program, policy) {
+        Ok(_) => code == 0,
+        Err(fault) => code_of(&fault) == code && text_of(&fault) == text.as_bytes(),
+    })
+}
+
 fn is_told(alloc: Global, head: &str, tables: &str, code: u32, text: &str) -> Result<bool, Memory> {
     let program = program(alloc)?;
     let policy = joined(alloc, head, tables)?;
-    if program.methods.as_slice().len() > 100 {
-        return Err(Memory);
-    }
-    Ok(
-        match whole::read_policy(alloc, policy.as_slice(), &program) {
-            Ok(_) => code == 0,
-            Err(fault) => code_of(&fault) == code && text_of(&fault) == text.as_bytes(),
-        },
-    )
+    is_told_of(alloc, &program, policy.as_slice(), code, text)
 }
 
 const HEAD: &str =
@@ -215,6 +315,27 @@ fn levels_are_told_in_order(rt: HostRuntime) -> Result<(), Fail> {
     let unknown =
         "levels = ['a', 'b']\nflows = [['a', 'b'], ['b', 'a']]\nentry = 'e'\n[sinks]\nm = 'c'\n";
     assert!(rt; is_told(alloc, unknown, "", 3, "c")?);
+    assert!(rt;
+        is_told(
+            alloc,
+            "levels = ['a', 'b']\nobservers = ['a', '']\nentry = 'e'\n",
+            "",
+            3,
+            ""
+        )?
+    );
+    let pair =
+        "levels = ['a', 'b', 'c']\nflows = [['a', 'c'], ['b', 'c'], ['c', 'b']]\nentry = 'e'\n";
+    assert!(rt; is_told(alloc, pair, "", 4, "b")?);
+    assert!(rt;
+        is_told(
+            alloc,
+            "levels = ['b', '', 'b']\nflows = [['b', 'c']]\nentry = 'e'\n",
+            "",
+            4,
+            "b"
+        )?
+    );
     let cycle =
         "levels = ['a', 'b', 'c']\nflows = [['c', 'b'], ['b', 'a'], ['a', 'c']]\nentry = 'e'\n[sinks]\nm = 'c'\n";
     assert!(rt; is_told(alloc, cycle, "", 4, "a")?);
@@ -249,6 +370,24 @@ fn methods_are_told_in_order(rt: HostRuntime) -> Result<(), Fail> {
     let upward =
         "[sources]\n'A.get()I' = 'top'\n[sinks]\n'A.put(I)V' = 'low'\n[releases]\n'A.r%25l(I)I' = { from = 'low', to = 'top' }\n";
     assert!(rt; is_told(alloc, HEAD, upward, 9, "2")?);
+    let sink_too =
+        "[sinks]\n'A.put(I)V' = 'low'\n[releases]\n'A.put(I)V' = { from = 'top', to = 'low' }\n";
+    assert!(rt; is_told(alloc, HEAD, sink_too, 8, "1")?);
+    assert!(rt; is_told(alloc, HEAD, "[sinks]\n'A.main()V' = 'low'\n", 6, "more")?);
+    let no_release = "[sources]\n'A.get()I' = 'top'\n[sinks]\n'A.put(I)V' = 'low'\n";
+    assert!(rt; is_told(alloc, HEAD, no_release, 7, "2")?);
+    let aside =
+        "[sources]\n'A.get()I' = 'top'\n[sinks]\n'A.put(I)V' = 'low'\n[releases]\n'A.r%25l(I)I' = { from = 'low', to = 'mid' }\n";
+    assert!(rt; is_told(alloc, HEAD, aside, 9, "2")?);
+    assert!(rt;
+        is_told(
+            alloc,
+            "levels = ['low', 'top']\nentry = 'A.main()I'\n",
+            "[sources]\n'A.get()I' = 'top'\n[sinks]\n'A.put(I)V' = 'low'\n[releases]\n'A.r%25l(I)I' = { from = 'low', to = 'low' }\n",
+            11,
+            ""
+        )?
+    );
     assert!(rt;
         is_told(
             alloc,
@@ -261,17 +400,81 @@ fn methods_are_told_in_order(rt: HostRuntime) -> Result<(), Fail> {
     Ok(())
 }
 
+/// So many levels with names of two bytes, and an entry that no method has.
+fn many_levels(alloc: Global, count: u8) -> Result<Vec<u8>, Memory> {
+    let mut text = Vec::new(alloc);
+    text.extend_from_slice(b"entry = 'e'\nlevels = [")?;
+    for i in 0..count.min(100) {
+        text.extend_from_slice(&[b'\'', b'0' + i / 10, b'0' + i % 10, b'\'', b','])?;
+    }
+    text.extend_from_slice(b"]\n")?;
+    Ok(text)
+}
+
+#[test]
+fn levels_are_at_most_64(rt: HostRuntime) -> Result<(), Fail> {
+    let alloc = rt.alloc();
+    let program = program(alloc)?;
+    let most = many_levels(alloc, 64)?;
+    assert!(rt; is_told_of(alloc, &program, most.as_slice(), 7, "0")?);
+    let more = many_levels(alloc, 65)?;
+    assert!(rt; is_told_of(alloc, &program, more.as_slice(), 4, "")?);
+    Ok(())
+}
+
+const RELEASE: &str =
+    "levels = ['low']\nentry = 'A.main()V'\n[releases]\n'A.r(I)I' = { from = 'low', to = 'low' }\n";
+
+/// What a policy with a release is told of a program with this call: 0 for nothing, or the number of a fault and the pc of a
+/// call that may start a thread.
+fn told_of_call(alloc: Global, op: u8, owner: u32, called: &str) -> Result<(u32, u32), Memory> {
+    let program = with_call(alloc, "(I)I", op, owner, called)?;
+    Ok(match read(alloc, &program, RELEASE.as_bytes()) {
+        Ok(_) => (0, 0),
+        Err(PolicyFault::ReleaseWithThreads(method, pc)) => {
+            if method.number() == 2 {
+                (10, pc)
+            } else {
+                (10, 99)
+            }
+        }
+        Err(fault) => (code_of(&fault), 0),
+    })
+}
+
+#[test]
+fn releases_stand_beside_no_threads(rt: HostRuntime) -> Result<(), Fail> {
+    let alloc = rt.alloc();
+    assert_eq!(rt; told_of_call(alloc, 182, 4, "start")?, (10, 1));
+    assert_eq!(rt; told_of_call(alloc, 182, 3, "start")?, (10, 1));
+    assert_eq!(rt; told_of_call(alloc, 183, 3, "start")?, (10, 1));
+    assert_eq!(rt; told_of_call(alloc, 182, 5, "start")?, (0, 0));
+    assert_eq!(rt; told_of_call(alloc, 182, 4, "stop")?, (0, 0));
+    assert_eq!(rt; told_of_call(alloc, 178, 4, "start")?, (0, 0));
+    Ok(())
+}
+
+/// A policy without releases asks nothing of calls.
+#[test]
+fn threads_may_start_without_releases(rt: HostRuntime) -> Result<(), Fail> {
+    let alloc = rt.alloc();
+    let program = with_call(alloc, "()I", 182, 4, "start")?;
+    let text = "levels = ['low']\nentry = 'A.main()V'\n[sources]\n'A.r()I' = 'low'\n";
+    assert!(rt; is_told_of(alloc, &program, text.as_bytes(), 0, "")?);
+    Ok(())
+}
+
 /// What a run file is told: the number of its fault, 0 where it has none, and how long its inputs and its schedule are.
 fn planned(alloc: Global, text: &str) -> Result<(u32, usize, usize), Memory> {
     let program = program(alloc)?;
     let policy_text = joined(alloc, HEAD, TABLES)?;
-    if program.methods.as_slice().len() > 100 {
-        return Err(Memory);
-    }
-    let policy = match whole::read_policy(alloc, policy_text.as_slice(), &program) {
+    let policy = match read(alloc, &program, policy_text.as_slice()) {
         Ok(policy) => policy,
         Err(_) => return Err(Memory),
     };
+    if program.methods.as_slice().len() > 100 {
+        return Err(Memory);
+    }
     match read_run(alloc, text.as_bytes(), &program, &policy) {
         Ok(plan) => Ok((
             0,

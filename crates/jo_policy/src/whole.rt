@@ -1,5 +1,6 @@
 //! Policies of any levels, observers, contexts and releases.
 ghost use Rattle.std.specs.Prelude.{◌≡◌, ℕ, ◌<◌, ◌^◌, length, IfOk, IfErr};
+ghost use Rattle.hierarchy.specs.Hierarchies.{IsHierarchyOf};
 ghost use Rattle.toml.specs.Data.{Members};
 ghost use Rattle.toml.specs.View.{table_view};
 ghost use Rattle.jo_order.specs.Flowing.{FlowsBy, flows as rows_flow};
@@ -7,12 +8,14 @@ ghost use Rattle.jo_prog.specs.Labels.{label_of, flows_by, flows as flows_in};
 ghost use Rattle.policy_tree.specs.Outcomes.{Gives, or_fault};
 ghost use Rattle.jo_policy.specs.FileMethods.{IsIndexOf, entry_named};
 ghost use Rattle.jo_policy.specs.Labelling.{ordered_from};
-ghost use Rattle.jo_policy.specs.Policies.{Answers, OrMemory, labels_of, IsPolicyBeforeThreads, IsFaultBeforeThreads, IsTree, IsTextFaultBeforeThreads};
+ghost use Rattle.jo_policy.specs.Policies.{Answers, OrMemory, labels_of, IsPolicy, IsPolicyFault, IsTree, IsTextFault};
 
 use crate::labelling::{label_at, label_methods};
 use crate::numbering::{NumberedPolicy, number};
 use crate::ordering::put_in_order;
 use crate::spellings::{MethodIndex, find_entry, index_methods};
+use crate::threads::no_release_with_threads;
+use hierarchy::Hierarchy;
 use jo_ids::{Id, LevelId, List, MethodId};
 use jo_order::{Levels, Order};
 use jo_prog::labels::{Label, Labels};
@@ -79,11 +82,14 @@ fn entry_of(program: &Program, index: &MethodIndex, text: &[u8]) -> Result<u32, 
 fn label_program(
     alloc: Global,
     program: &Program,
+    hierarchy: &Hierarchy,
     order: Levels,
     written: WrittenPolicy,
     numbered: NumberedPolicy,
 ) -> Result<Policy, PolicyFault>
+    requires few_classes { length program.now.classes < 2 ^ 32 }
     requires few { length program.now.methods < 2 ^ 32 }
+    requires kept { IsHierarchyOf program.now hierarchy.now }
     requires flowing { FlowsBy numbered.flows order }
     ensures labels { Gives (λ policy. policy.labels) result
         (labels_of program.now written numbered) }
@@ -92,6 +98,7 @@ fn label_program(
     let index = index_methods(alloc, program)?;
     let labelled = label_methods(alloc, program, &index, &order, numbered.labels.as_slice())?;
     let entry = entry_of(program, &index, written.entry.as_slice())?;
+    no_release_with_threads(alloc, program, hierarchy, labelled.labelled.as_slice())?;
     Ok(Policy {
         labels: Labels {
             levels: written.levels,
@@ -106,29 +113,43 @@ fn label_program(
     })
 }
 
-fn from_tree(alloc: Global, tree: &Table, program: &Program) -> Result<Policy, PolicyFault>
-    requires { length program.now.methods < 2 ^ 32 }
-    ensures { Answers (λ policy. IsPolicyBeforeThreads program.now
+fn from_tree(
+    alloc: Global,
+    tree: &Table,
+    program: &Program,
+    hierarchy: &Hierarchy,
+) -> Result<Policy, PolicyFault>
+    requires few_classes { length program.now.classes < 2 ^ 32 }
+    requires few { length program.now.methods < 2 ^ 32 }
+    requires kept { IsHierarchyOf program.now hierarchy.now }
+    ensures { Answers (λ policy. IsPolicy program.now
         (table_view tree.now) policy.labels policy.contexts)
-        (IsFaultBeforeThreads program.now (table_view tree.now)) result }
+        (IsPolicyFault program.now (table_view tree.now)) result }
 {
     let written = read_written(alloc, tree)?;
     let no_pairs = List::new(alloc);
     put_in_order(alloc, written.levels.as_slice(), no_pairs.as_slice())?;
     let numbered = number(alloc, &written)?;
     let order = put_in_order(alloc, written.levels.as_slice(), numbered.flows.as_slice())?;
-    label_program(alloc, program, order, written, numbered)
+    label_program(alloc, program, hierarchy, order, written, numbered)
 }
 
-/// The policy that a text gives to a program, or the first fault of the text. That a program with releases starts no thread isn't asked.
-pub fn read_policy(alloc: Global, text: &[u8], program: &Program) -> Result<Policy, PolicyFault>
-    requires { length program.now.methods < 2 ^ 32 }
+/// The policy that a text gives to a program, or the first fault of the text.
+pub fn read_policy(
+    alloc: Global,
+    text: &[u8],
+    program: &Program,
+    hierarchy: &Hierarchy,
+) -> Result<Policy, PolicyFault>
+    requires few_classes { length program.now.classes < 2 ^ 32 }
+    requires few { length program.now.methods < 2 ^ 32 }
+    requires kept { IsHierarchyOf program.now hierarchy.now }
     ensures policy { IfOk result (λ policy.
-        (tree : Members) × IsTree text.now tree × IsPolicyBeforeThreads program.now tree policy.labels policy.contexts) }
-    ensures fault { IfErr result (OrMemory (IsTextFaultBeforeThreads program.now text.now)) }
+        (tree : Members) × IsTree text.now tree × IsPolicy program.now tree policy.labels policy.contexts) }
+    ensures fault { IfErr result (OrMemory (IsTextFault program.now text.now)) }
 {
     match toml::table_from_slice(alloc, text) {
-        Ok(tree) => from_tree(alloc, &tree, program),
+        Ok(tree) => from_tree(alloc, &tree, program, hierarchy),
         Err(fault) if fault.is_memory() => Err(PolicyFault::Memory),
         Err(_) => Err(PolicyFault::NotToml),
     }

@@ -1,4 +1,5 @@
 pub mod Verdict
+pub mod LevelFlows
 pub mod ByEdges
 pub mod Security
 pub mod Sides

@@ -4,6 +4,7 @@
 #![tactic(auto)]
 
 pub mod laws;
+mod level_flows;
 mod refusals;
 
-pub use refusals::{Side, nodes_on, refusal};
+pub use refusals::{Side, refusal};

@@ -4,13 +4,16 @@ ghost use Rattle.jo_prog.specs.Labels.{reaches, misses, shown_at, brings, lets_o
 ghost use Rattle.dep_nodes.specs.Graphs.{WalksTo};
 ghost use Rattle.dependence.specs.GraphData.{IsDependenceGraph};
 ghost use Rattle.flow_graph.specs.Slices.{HasEdgesInside};
+ghost use Rattle.low_run.specs.LevelFlows.{KeepsFlows};
 ghost use Rattle.low_run.specs.Verdict.{label_resolved, CleanForAll, Reports};
 ghost use Rattle.low_run.specs.Sides.{is_on, places_from, hidden_nodes, observed_nodes, IsForbiddenWalk};
 
+use crate::level_flows::{flows, rows_of};
 use chain_report::report;
 use dep_nodes::{Chain, Graph, NodeKind, NodeName};
 use flow_graph::slicer;
 use jo_ids::{LevelId, MethodId, NodeId};
+use jo_order::Levels;
 use jo_prog::labels::{self, Label, Labels};
 use jo_prog::program::Program;
 use std::alloc::{AllocError as Memory, Global};
@@ -23,35 +26,38 @@ pub enum Side {
 }
 
 /// Whether what is shown at a method with this label reaches the observer.
-fn shows(labels: &Labels, observer: LevelId, label: Label) -> bool
+fn shows(labels: &Labels, rows: &Option<Levels>, observer: LevelId, label: Label) -> bool
+    requires { KeepsFlows labels.now rows.now }
     ensures { result ≡ reaches labels.now observer (shown_at (Some label)) }
 {
     match label {
         Label::Source(_) => false,
-        Label::Sink(level) => labels::flows(labels, level, observer),
-        Label::Release { to, .. } => labels::flows(labels, to, observer),
+        Label::Sink(level) => flows(labels, rows, level, observer),
+        Label::Release { to, .. } => flows(labels, rows, to, observer),
     }
 }
 
 /// Whether what a method with this label brings in is kept from the observer.
-fn hides(labels: &Labels, observer: LevelId, label: Label) -> bool
+fn hides(labels: &Labels, rows: &Option<Levels>, observer: LevelId, label: Label) -> bool
+    requires { KeepsFlows labels.now rows.now }
     ensures { result ≡ misses labels.now observer (brings (Some label)) }
 {
     match label {
-        Label::Source(level) => !labels::flows(labels, level, observer),
+        Label::Source(level) => !flows(labels, rows, level, observer),
         Label::Sink(_) => false,
-        Label::Release { to, .. } => !labels::flows(labels, to, observer),
+        Label::Release { to, .. } => !flows(labels, rows, to, observer),
     }
 }
 
 /// Whether what a release with this label lets out is the observer's to know.
-fn lets_know(labels: &Labels, observer: LevelId, label: Label) -> bool
+fn lets_know(labels: &Labels, rows: &Option<Levels>, observer: LevelId, label: Label) -> bool
+    requires { KeepsFlows labels.now rows.now }
     ensures { result ≡ reaches labels.now observer (lets_out (Some label)) }
 {
     match label {
         Label::Source(_) => false,
         Label::Sink(_) => false,
-        Label::Release { from, .. } => labels::flows(labels, from, observer),
+        Label::Release { from, .. } => flows(labels, rows, from, observer),
     }
 }
 
@@ -64,7 +70,8 @@ fn label_resolved(labels: &Labels, resolved: Option<MethodId>) -> Option<Label>
     }
 }
 
-fn is_hidden(labels: &Labels, observer: LevelId, name: &NodeName) -> bool
+fn is_hidden(labels: &Labels, rows: &Option<Levels>, observer: LevelId, name: &NodeName) -> bool
+    requires { KeepsFlows labels.now rows.now }
     ensures { result ≡ is_on Side.Hidden labels.now observer name.now }
 {
     let label = match label_resolved(labels, name.resolved) {
@@ -72,12 +79,13 @@ fn is_hidden(labels: &Labels, observer: LevelId, name: &NodeName) -> bool
         None => return false,
     };
     match name.kind {
-        NodeKind::RetVal(_) => hides(labels, observer, label),
+        NodeKind::RetVal(_) => hides(labels, rows, observer, label),
         _ => false,
     }
 }
 
-fn is_observed(labels: &Labels, observer: LevelId, name: &NodeName) -> bool
+fn is_observed(labels: &Labels, rows: &Option<Levels>, observer: LevelId, name: &NodeName) -> bool
+    requires { KeepsFlows labels.now rows.now }
     ensures { result ≡ is_on Side.Observed labels.now observer name.now }
 {
     let label = match label_resolved(labels, name.resolved) {
@@ -85,35 +93,44 @@ fn is_observed(labels: &Labels, observer: LevelId, name: &NodeName) -> bool
         None => return false,
     };
     match name.kind {
-        NodeKind::Call(_) => shows(labels, observer, label),
-        NodeKind::Arg(_, place) => place == 0 && lets_know(labels, observer, label),
+        NodeKind::Call(_) => shows(labels, rows, observer, label),
+        NodeKind::Arg(_, place) => place == 0 && lets_know(labels, rows, observer, label),
         _ => false,
     }
 }
 
-fn is_on(side: Side, labels: &Labels, observer: LevelId, name: &NodeName) -> bool
+fn is_on(
+    side: Side,
+    labels: &Labels,
+    rows: &Option<Levels>,
+    observer: LevelId,
+    name: &NodeName,
+) -> bool
+    requires { KeepsFlows labels.now rows.now }
     ensures { result ≡ is_on side labels.now observer name.now }
 {
     match side {
-        Side::Hidden => is_hidden(labels, observer, name),
-        Side::Observed => is_observed(labels, observer, name),
+        Side::Hidden => is_hidden(labels, rows, observer, name),
+        Side::Observed => is_observed(labels, rows, observer, name),
     }
 }
 
 /// The numbers of the graph's nodes on a side, in order.
-pub fn nodes_on(
+fn nodes_on(
     alloc: Global,
     side: Side,
     labels: &Labels,
+    rows: &Option<Levels>,
     observer: LevelId,
     graph: &Graph,
 ) -> Result<Vec<NodeId>, Memory>
-    requires { length graph.now.nodes < 2 ^ 32 }
+    requires flows { KeepsFlows labels.now rows.now }
+    requires small { length graph.now.nodes < 2 ^ 32 }
     ensures { IfOk result (λ nodes. nodes.items ≡ places_from (is_on side labels.now observer) 0 graph.now.nodes) }
 {
     let mut nodes = Vec::new(alloc);
     for (place, name) in graph.nodes.as_slice().iter().enumerate() {
-        if is_on(side, labels, observer, name) {
+        if is_on(side, labels, rows, observer, name) {
             nodes.push(NodeId::of(place as u32))?;
         }
     }
@@ -124,18 +141,42 @@ pub fn nodes_on(
 fn chain_for(
     alloc: Global,
     labels: &Labels,
+    rows: &Option<Levels>,
     graph: &Graph,
     observer: LevelId,
 ) -> Result<Option<Chain>, Memory>
+    requires flows { KeepsFlows labels.now rows.now }
     requires small { length graph.now.nodes < 2 ^ 32 }
     requires edges { HasEdgesInside graph.now }
     ensures found { IfOk result (λ o. IfSome o (IsForbiddenWalk labels.now graph.now observer)) }
     ensures none { IfOk result (λ o. IfNone o ((from : ℕ) → Contains (hidden_nodes labels.now observer graph.now) from
         → WalksTo graph.now (observed_nodes labels.now observer graph.now) from → ⊥)) }
 {
-    let hidden = nodes_on(alloc, Side::Hidden, labels, observer, graph)?;
-    let observed = nodes_on(alloc, Side::Observed, labels, observer, graph)?;
+    let hidden = nodes_on(alloc, Side::Hidden, labels, rows, observer, graph)?;
+    let observed = nodes_on(alloc, Side::Observed, labels, rows, observer, graph)?;
     slicer::find_walk(alloc, graph, hidden.as_slice(), observed.as_slice())
+}
+
+/// The same as `refusal`, by the rows of the levels.
+fn refusal_by(
+    alloc: Global,
+    program: &Program,
+    labels: &Labels,
+    rows: &Option<Levels>,
+    graph: &Graph,
+) -> Result<Option<Vec<u8>>, Memory>
+    requires flows { KeepsFlows labels.now rows.now }
+    requires graph { IsDependenceGraph program.now labels.now graph.now }
+    ensures clean { IfOk result (λ o. IfNone o (CleanForAll graph.now labels.now)) }
+    ensures report { IfOk result (λ o. IfSome o (λ text. Reports program.now labels.now graph.now text.items)) }
+{
+    for observer in labels.observers.as_slice() {
+        if let Some(chain) = chain_for(alloc, labels, rows, graph, *observer)? {
+            let text = report(alloc, program, labels, graph, *observer, &chain)?;
+            return Ok(Some(text));
+        }
+    }
+    Ok(None)
 }
 
 /// The report for the first observer that has an illegal chain. None where the graph is clean for each.
@@ -149,11 +190,6 @@ pub fn refusal(
     ensures clean { IfOk result (λ o. IfNone o (CleanForAll graph.now labels.now)) }
     ensures report { IfOk result (λ o. IfSome o (λ text. Reports program.now labels.now graph.now text.items)) }
 {
-    for observer in labels.observers.as_slice() {
-        if let Some(chain) = chain_for(alloc, labels, graph, *observer)? {
-            let text = report(alloc, program, labels, graph, *observer, &chain)?;
-            return Ok(Some(text));
-        }
-    }
-    Ok(None)
+    let rows = rows_of(alloc, labels)?;
+    refusal_by(alloc, program, labels, &rows, graph)
 }

@@ -7,10 +7,10 @@ use Rattle.low_run.specs.Verdict.{Clean}
 use Rattle.low_run.proofs.Sides.{clean_more, clean_all}
 use Rattle.flow_graph.proofs.ChainWalks.{edges_inside}
 use Rattle.low_run.proofs.Verdicts.{forbidden_is_illegal, no_walk_is_clean}
-use Rattle.low_run.proofs.refusals.refusal.Goals as goal
+use Rattle.low_run.proofs.refusals.refusal_by.Goals as goal
 
 pub chain_for-requires-clause-edges : goal.chain_for-requires-clause-edges
-chain_for-requires-clause-edges c = edges_inside c.args.program.now c.args.labels.now c.args.graph.now c.requires
+chain_for-requires-clause-edges c = edges_inside c.args.program.now c.args.labels.now c.args.graph.now c.requires.graph
 
 pub returns-in-Some-clause-report : goal.returns-in-Some-clause-report
 returns-in-Some-clause-report c =
@@ -18,7 +18,7 @@ returns-in-Some-clause-report c =
     let o = c.observer-item.result in
     let read = slice_get_read c.as_slice-observer-items.result.now (length c.as_slice-observer-items.result.now) c.loop-observer.observer-index o refl c.loop-observer-test.true c.observer-item.is in
     let walk = subst (λ (x : Option Chain). IfSome x (IsForbiddenWalk labels c.args.graph.now o)) c.in-Some.is c.in_ok-chain.ensures.found in
-    let illegal = forbidden_is_illegal c.args.program.now labels c.args.graph.now c.requires o c.in-Some.chain walk in
+    let illegal = forbidden_is_illegal c.args.program.now labels c.args.graph.now c.requires.graph o c.in-Some.chain walk in
     record {
       place = c.loop-observer.observer-index;
       observer = o;
@@ -38,7 +38,7 @@ loop-observer-preserved c =
     let at = subst (λ (xs : List ℕ). slice_get xs c.loop-observer.observer-index ≡ Some o) c.as_slice-observer-items.ensures read in
     let none = subst (λ (x : Option Chain). IfNone x ((from : ℕ) → Contains (hidden_nodes labels o c.args.graph.now) from → WalksTo c.args.graph.now (observed_nodes labels o c.args.graph.now) from → ⊥))
     c.in_default.is c.in_ok-chain.ensures.none in
-    clean_more (Clean c.args.graph.now labels) labels.observers c.loop-observer.observer-index o c.loop-observer.invariant at (no_walk_is_clean c.args.program.now labels c.args.graph.now c.requires o none)
+    clean_more (Clean c.args.graph.now labels) labels.observers c.loop-observer.observer-index o c.loop-observer.invariant at (no_walk_is_clean c.args.program.now labels c.args.graph.now c.requires.graph o none)
 
 pub returns-clause-clean : goal.returns-clause-clean
 returns-clause-clean c =

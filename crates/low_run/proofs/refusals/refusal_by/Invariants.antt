@@ -1,6 +1,6 @@
 use Rattle.std.proofs.Common.{◌≡◌, ℕ, ◌<◌, Some, slice_get}
 use Rattle.low_run.specs.Verdict.{Clean}
-use Rattle.low_run.proofs.refusals.refusal.Given as goal
+use Rattle.low_run.proofs.refusals.refusal_by.Given as goal
 
 -- each observer so far is clean
 abbrev pub invariant-loop-observer : goal.invariant-loop-observer
