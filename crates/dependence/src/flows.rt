@@ -2,7 +2,7 @@
 ghost use Rattle.std.specs.Prelude.{◌≡◌, ◌↔◌, ◌++◌, ◌∷◌, [], ◌<◌, length, slice_get, option_map, All, Contains, Some, IfOk, IsTrue, OnErr, OnOk};
 ghost use Rattle.dep_nodes.specs.OnceLists.{IsOnceEach};
 ghost use Rattle.dep_nodes.specs.GrowingGraphs.{AppendsNew};
-ghost use Rattle.dependence.specs.FlowData.{bare, AddsSuccessor, AddsRead, AddsWrite};
+ghost use Rattle.dependence.specs.FlowData.{bare, IsFlow, AddsSuccessor, AddsRead, AddsWrite};
 
 use crate::flow::Place;
 use dep_nodes::NodeKind;
@@ -126,6 +126,14 @@ impl Flow {
             rows: Vec::new(alloc),
             alloc,
         }
+    }
+
+    /// The graph with these nodes. It takes no memory.
+    pub fn of(alloc: Global, rows: Vec<FlowRow>) -> Flow
+        requires { IsFlow rows.items rows.len }
+        ensures { result ≡ rows.items }
+    {
+        Flow { rows, alloc }
     }
 
     /// Adds a node without successors and places at the end, and gives its number.

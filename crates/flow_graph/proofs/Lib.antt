@@ -9,3 +9,11 @@ pub mod PlainCalls
 pub mod PlainTyping
 pub mod PlainWalk
 pub mod WorkedPlain
+pub mod StepLemmas
+pub mod ExploreLemmas
+pub mod AddingLemmas
+pub mod UseLemmas
+pub mod RowLemmas
+pub mod CountLemmas
+pub mod NumberLemmas
+pub mod ReadLemmas

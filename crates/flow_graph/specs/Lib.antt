@@ -1,2 +1,8 @@
 pub mod Slices
 pub mod Building
+pub mod Adding
+pub mod Exploring
+pub mod NodeUses
+pub mod Rows
+pub mod Spots
+pub mod Steps
