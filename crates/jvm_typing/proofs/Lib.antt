@@ -27,3 +27,4 @@ pub mod AskLemmas
 pub mod KindFaultLemmas
 pub mod FailLemmas
 pub mod FirstAnswerLemmas
+pub mod TypingsLemmas

@@ -14,3 +14,4 @@ pub mod Effects
 pub mod KindPasses
 pub mod Sources
 pub mod KindFaults
+pub mod Typings

@@ -15,6 +15,7 @@ mod kinds;
 pub mod laws;
 mod marks;
 mod moves;
+mod programs;
 mod search;
 mod sizes;
 mod sources;
@@ -24,4 +25,5 @@ mod subjects;
 mod typing_methods;
 
 pub use heights::{first_height_fault, heights_of};
+pub use programs::{MethodFault, type_program};
 pub use typing_methods::type_method;
