@@ -10,7 +10,6 @@ pub mod names;
 pub mod needs;
 mod operands;
 mod programs;
-pub mod single;
 pub mod supers;
 #[cfg(test)]
 mod tests;
