@@ -3,7 +3,7 @@ use Rattle.std.proofs.Common.{◌≡◌, ◌∙◌, ℕ, suc, ◌+◌, ◌-◌, 
 use Rattle.std.specs.Prelude.{Vec}
 use Rattle.std.specs.Str.{IsUtf8}
 use Rattle.std.specs.declared.alloc.Global.{Global}
-use Rattle.std.proofs.lemmas.Bool.{ltb-false}
+use Rattle.std.proofs.lemmas.Bool.{ltb-false, lt-ltb}
 use Rattle.std.proofs.lemmas.List.{append-nil, drop_more, drop_all}
 use Rattle.jo_io.specs.Counts.{Rose}
 use Rattle.jo_text.specs.Texts.{StopsAt}
@@ -13,7 +13,7 @@ use Rattle.joana_base.specs.declared.reading.ProgramFiles as memory
 use Rattle.joana_base.specs.declared.answers.Stop.{Stop}
 use Rattle.joana_base.specs.declared.answers.Stop.TheVariants.{Faulty, Unread, Memory}
 use Rattle.joana_base.specs.declared.status.InputFault.TheVariants.{ClassList}
-use Rattle.jo_ids.specs.declared.LimitKind.TheVariants.{M2}
+use Rattle.jo_ids.specs.declared.LimitKind.TheVariants.{M1, M2}
 use Rattle.joana_base.specs.declared.status.Refusal.{Refusal}
 use Rattle.joana_base.specs.declared.status.Refusal.TheVariants.{Input, Limit}
 
@@ -26,6 +26,9 @@ list_stop list at place small stops is =
     let inside = stops.inside in
     let same : at ≡ place = omega (arith, is, below, inside) in
     no_text place (subst (StopsAt IsUtf8 list) same stops)
+
+pub too_many : (list : List ℕ) (paths : List (List ℕ)) → IsUtf8 list → paths ≡ paths_of list → 512 < length paths → RefusesList list (Limit M1)
+too_many list paths text are more = many_paths text (subst (λ xs. are_many xs ≡ true) are (lt-ltb 512 (length paths) more))
 
 -- what refuses a list doesn't let its paths be read
 unread_list : (list : List ℕ) (refusal : Refusal) → RefusesList list refusal → IsUtf8 list → are_many (paths_of list) ≡ false → ⊥

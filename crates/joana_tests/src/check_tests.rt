@@ -142,17 +142,25 @@ fn other_classes_are_not_built(rt: HostRuntime) -> Result<(), Fail> {
     assert_eq!(rt; with_class(alloc, 193, 3, &[0xb1, 0xb1, 0xb1])?.as_str(), NOT_BUILT);
     // a name that no label spells
     assert_eq!(rt; with_class(alloc, 48, 2, &[0xc3, 0xa9])?.as_str(), NOT_BUILT);
-    // a row of the exception table, a method that isn't native
+    // a row of the exception table
     let row = [0, 1, 0, 0, 0, 3, 0, 0, 0, 0];
     let caught = changed(edited(alloc, 200, 2, &row)?, 176, 0x23);
     assert_eq!(rt; with_good_policy(alloc, caught)?.as_str(), NOT_BUILT);
-    assert_eq!(rt; with_class(alloc, 139, 2, &[4, 8])?.as_str(), NOT_BUILT);
     // a second method with code: secret()V
     let method = [
         0u8, 5, 0, 8, 0, 5, 0, 11, 0, 1, 0, 12, 0, 0, 0, 13, 0, 0, 0, 0, 0, 0, 0, 1, 0xb1, 0, 0, 0,
         0,
     ];
     assert_eq!(rt; with_class(alloc, 137, 2, &method)?.as_str(), NOT_BUILT);
+    Ok(())
+}
+
+#[test]
+fn a_class_alone_may_not_link(rt: HostRuntime) -> Result<(), Fail> {
+    let alloc = rt.alloc();
+    // itself as its superclass, an abstract method that is called
+    assert_eq!(rt; with_class(alloc, 131, 2, &[0, 2])?.as_str(), "3 joana: input L3 Main\n");
+    assert_eq!(rt; with_class(alloc, 139, 2, &[4, 8])?.as_str(), "3 joana: input L5 Main\n");
     Ok(())
 }
 

@@ -1,5 +1,8 @@
 -- From the classes of the files and the decision to what a command comes to.
-use Rattle.std.proofs.Common.{◌≡◌, inl, inr, ℕ, List, Option, Some, None, Result, Ok, Err, refl, sym, subst, arith}
+use Rattle.std.proofs.Common.{◌≡◌, inl, inr, ℕ, ◌<◌, ◌^◌, List, length, Option, Some, None, Result, Ok, Err, refl, sym, subst, arith}
+use Rattle.std.proofs.lemmas.List.{length-map}
+use Rattle.std.specs.Prelude.{Vec}
+use Rattle.std.specs.declared.alloc.Global.{Global}
 use Rattle.class_pool.specs.declared.classes.ClassFile.{ClassFile}
 use Rattle.jo_prog.specs.declared.program.Program.{Program}
 use Rattle.linker.specs.LinkOrder.{IsLinkFault, IsLinkAnswer}
@@ -9,7 +12,9 @@ use Rattle.joana_base.specs.declared.status.LinkKind.{LinkKind}
 use Rattle.jo_prog.specs.declared.labels.Labels.{Labels}
 use Rattle.low_run.proofs.Verdicts.{clean_graph_secure}
 use Rattle.joana_base.specs.Files.{Held, ProgramNames, ProgramFiles, AreProgramFiles, IsToldAs, classes_of, AreReadable, of_classes, HaveClasses}
-use Rattle.joana_base.specs.Reading.{FilesChange, AfterReads, AreClasses, IsUnlessMemory}
+use Rattle.joana_base.specs.Reading.{FilesChange, in_bytes, AfterReads, AreClasses, IsUnlessMemory}
+use Rattle.joana_base.specs.declared.reading.ProgramFiles as memory
+use Rattle.joana_base.proofs.ReadFiles.{few_files}
 use Rattle.joana_base.specs.declared.status.Status.{Status}
 use Rattle.joana_base.specs.declared.status.Status.TheVariants as statuses
 use Rattle.joana_base.specs.declared.status.Refusal.{Refusal}
@@ -65,6 +70,15 @@ pub refused_classes : (files : ProgramFiles) → AreReadable files → (stop : S
 refused_classes files ready (Faulty refusal) stopped = in_files refusal (of_classes refusal ready stopped)
 refused_classes files ready (Unread unread) stopped = absurd stopped
 refused_classes files ready Memory stopped = tt
+
+pub few_classes : (files : memory.ProgramFiles) → AreReadable (in_bytes files) → length files.classes.items < 2 ^ 32
+few_classes files ready =
+    let few = few_files (in_bytes files) ready in
+    let mapped = length-map files.classes.items (λ (file : Vec ℕ Global). file.items) in
+    omega (arith, few, mapped)
+
+pub classes_made : (files : ProgramFiles) → AreReadable files → (classes : List ClassFile) → classes_of files.classes ≡ Ok classes → HaveClasses files classes
+classes_made files ready classes comes = record { readable = ready; classes_are = comes }
 
 module _ (files : ProgramFiles) (classes : List ClassFile) (passes : HaveClasses files classes) where
   -- so does what refuses them together
