@@ -1,12 +1,16 @@
 pub mod Behind
 pub mod Dependence
+pub mod DependenceEdges
+pub mod FactRules
 pub mod Flow
 pub mod FlowData
 pub mod FlowGraph
 pub mod Graph
 pub mod GraphData
 pub mod GraphsAsData
+pub mod HeapDependence
 pub mod Listed
 pub mod MayBeNull
 pub mod NodePlaces
+pub mod ProgramGraph
 pub mod WideGraph

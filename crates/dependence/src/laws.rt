@@ -1,11 +1,26 @@
 //! Laws of the definitions. Each function is empty: what it ensures is the law.
-ghost use Rattle.std.specs.Prelude.{◌≡◌, true, None};
+ghost use Rattle.std.specs.Prelude.{◌≡◌, ℕ, List, true, None};
+ghost use Rattle.contexts.specs.Policies.{ContextPolicy};
 ghost use Rattle.jo_insn.specs.declared.instructions.Insn.{Insn};
+ghost use Rattle.jo_prog.specs.declared.program.Program.{Program};
 ghost use Rattle.jo_prog.specs.Sites.{opcode_of};
+ghost use Rattle.jo_prog.specs.TypingPaths.{HasHeightAt};
+ghost use Rattle.dependence.specs.declared.facts.Fact.{Fact};
+ghost use Rattle.dependence.specs.FactRules.{ByRule, Derivable};
 ghost use Rattle.dependence.specs.WideGraph.{may_throw};
 ghost use Rattle.dependence.specs.NodePlaces.{local_written};
 
 /// No instruction that may raise an exception writes a local: what it would write reaches no handler.
 pub fn throwers_write_no_local()
     ensures { (insn : Insn) → may_throw (opcode_of insn) ≡ true → local_written insn ≡ None }
+{}
+
+/// What follows from derivable facts by one rule is derivable, and each derivable fact follows so.
+pub fn facts_follow()
+    ensures closed { (program : Program) (policy : ContextPolicy) (entry : ℕ) (fact : Fact (List ℕ))
+        → ByRule program policy (HasHeightAt program) entry (Derivable program policy (HasHeightAt program) entry) fact
+        → Derivable program policy (HasHeightAt program) entry fact }
+    ensures follows { (program : Program) (policy : ContextPolicy) (entry : ℕ) (fact : Fact (List ℕ))
+        → Derivable program policy (HasHeightAt program) entry fact
+        → ByRule program policy (HasHeightAt program) entry (Derivable program policy (HasHeightAt program) entry) fact }
 {}

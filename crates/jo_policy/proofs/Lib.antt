@@ -1,11 +1,13 @@
 pub mod PolicyLabels
 pub mod PolicyParts
+pub mod FewLevels
 pub mod PolicyReads
 pub mod PolicySteps
 pub mod MethodEntries
 pub mod Tables
 pub mod PolicyOrders
 pub mod PolicyMakes
+pub mod OrderedLevels
 pub mod WholeLabels
 pub mod PolicyAnswers
 pub mod RunAnswers

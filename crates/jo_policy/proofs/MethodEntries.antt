@@ -8,9 +8,10 @@ use Rattle.std.proofs.lemmas.List.{drop_more}
 use Rattle.indexmap.specs.IndexMap.{insert_entry}
 use Rattle.jo_prog.specs.declared.program.Program.{Program}
 use Rattle.jo_prog.specs.declared.program.Method.{Method}
+use Rattle.jo_prog.specs.FileClasses.{is_of_files}
 use Rattle.jo_prog.specs.Program.{method_at}
 use Rattle.jo_prog.specs.Spelling.{spelled_in}
-use Rattle.jo_policy.specs.FileMethods.{is_of_files, is_spelled, named_from, method_named, entry_in, entry_of, with_entry, with_method}
+use Rattle.jo_policy.specs.FileMethods.{is_spelled, named_from, method_named, entry_in, entry_of, with_entry, with_method}
 use Rattle.jo_policy.proofs.PolicyParts.{at_some}
 use Rattle.jo_policy.proofs.PolicyLabels.{method_below}
 
@@ -57,11 +58,11 @@ or_else None second = second
 or_else (Some n) second = Some n
 
 -- what is indexed so far, before the methods to come
-pub record IsSoFar (first_class : ℕ) (program : Program) (entries : List (List ℕ × ℕ)) (n : ℕ) (rest : List Method) : Type 0 where
-  pub finds : (text : List ℕ) → or_else (entry_of entries text) (named_from first_class program text n rest) ≡ method_named first_class program text
+pub record IsSoFar (program : Program) (entries : List (List ℕ × ℕ)) (n : ℕ) (rest : List Method) : Type 0 where
+  pub finds : (text : List ℕ) → or_else (entry_of entries text) (named_from program text n rest) ≡ method_named program text
 
-pub none_so_far : (first_class : ℕ) (program : Program) (entries : List (List ℕ × ℕ)) → entries ≡ [] → IsSoFar first_class program entries 0 program.methods
-none_so_far first_class program entries none = record { finds = λ text. ap (λ es. or_else (entry_of es text) (named_from first_class program text 0 program.methods)) none }
+pub none_so_far : (program : Program) (entries : List (List ℕ × ℕ)) → entries ≡ [] → IsSoFar program entries 0 program.methods
+none_so_far program entries none = record { finds = λ text. ap (λ es. or_else (entry_of es text) (named_from program text 0 program.methods)) none }
 
 last_of : (b : Bool) (n : ℕ) (found second : Option ℕ) → or_else (cond b (Some n) found) second ≡ cond b (Some n) (or_else found second)
 last_of true n found second = refl
@@ -85,32 +86,32 @@ with_entry-else true entries spelling text n rest h =
     sym (there_already (entry_of entries text) (bytes_eq text spelling) n rest (λ same. subst (λ t. is_some (entry_of entries t) ≡ true) (sym ((bytes_eq-Decides text spelling).0 same)) h))
 with_entry-else false entries spelling text n rest h = behind_them entries spelling text n rest
 
-by_files : (b : Bool) (first_class : ℕ) (program : Program) (old : List (List ℕ × ℕ)) (n : ℕ) (method : Method) (text : List ℕ) (rest : Option ℕ)
+by_files : (b : Bool) (program : Program) (old : List (List ℕ × ℕ)) (n : ℕ) (method : Method) (text : List ℕ) (rest : Option ℕ)
     → or_else (entry_of (cond b (with_entry old (spelled_in program (Some method)) n) old) text) rest ≡ or_else (entry_of old text) (cond (b && bytes_eq text (spelled_in program (Some method))) (Some n) rest)
-by_files true first_class program old n method text rest = with_entry-else (is_some (entry_of old (spelled_in program (Some method)))) old (spelled_in program (Some method)) text n rest refl
-by_files false first_class program old n method text rest = refl
+by_files true program old n method text rest = with_entry-else (is_some (entry_of old (spelled_in program (Some method)))) old (spelled_in program (Some method)) text n rest refl
+by_files false program old n method text rest = refl
 
-one_indexed : (first_class : ℕ) (program : Program) (old new : List (List ℕ × ℕ)) (n : ℕ) (method : Method) (rest : List Method) → IsSoFar first_class program old n (method ∷ rest)
-    → new ≡ with_method first_class program old method n → IsSoFar first_class program new (suc n) rest
-one_indexed first_class program old new n method rest so_far is = record {
+one_indexed : (program : Program) (old new : List (List ℕ × ℕ)) (n : ℕ) (method : Method) (rest : List Method) → IsSoFar program old n (method ∷ rest)
+    → new ≡ with_method program old method n → IsSoFar program new (suc n) rest
+one_indexed program old new n method rest so_far is = record {
   finds = λ text.
-      ap (λ entries. or_else (entry_of entries text) (named_from first_class program text (suc n) rest)) is
-      ∙ by_files (is_of_files first_class method) first_class program old n method text (named_from first_class program text (suc n) rest)
+      ap (λ entries. or_else (entry_of entries text) (named_from program text (suc n) rest)) is
+      ∙ by_files (is_of_files program method) program old n method text (named_from program text (suc n) rest)
       ∙ so_far.finds text;
 }
 
 -- one method more
-pub next_indexed : (first_class first : ℕ) (program : Program) (old new : List (List ℕ × ℕ)) (i : ℕ) (method : Method) (methods : List Method) → methods ≡ program.methods → i < length methods
-    → method ≡ get_or methods i method → IsSoFar first_class program old i (drop i program.methods) → first ≡ first_class → new ≡ with_method first program old method i
-    → IsSoFar first_class program new (i + 1) (drop (i + 1) program.methods)
-next_indexed first_class first program old new i method methods same below at so_far class is =
+pub next_indexed : (program : Program) (old new : List (List ℕ × ℕ)) (i : ℕ) (method : Method) (methods : List Method) → methods ≡ program.methods → i < length methods
+    → method ≡ get_or methods i method → IsSoFar program old i (drop i program.methods) → new ≡ with_method program old method i
+    → IsSoFar program new (i + 1) (drop (i + 1) program.methods)
+next_indexed program old new i method methods same below at so_far is =
     let inside : i < length program.methods = subst (λ (ms : List Method). i < length ms) same below in
     let there : get_or program.methods i method ≡ method = sym (at ∙ ap (λ (ms : List Method). get_or ms i method) same) in
     let next : drop i program.methods ≡ method ∷ drop (i + 1) program.methods = drop_more program.methods i method inside ∙ ap (λ m. m ∷ drop (i + 1) program.methods) there in
-    let before : IsSoFar first_class program old i (method ∷ drop (i + 1) program.methods) = subst (λ ms. IsSoFar first_class program old i ms) next so_far in
+    let before : IsSoFar program old i (method ∷ drop (i + 1) program.methods) = subst (λ ms. IsSoFar program old i ms) next so_far in
     let e : suc i ≡ i + 1 = omega arith in
-    subst (λ n. IsSoFar first_class program new n (drop (i + 1) program.methods)) e
-    (one_indexed first_class program old new i method (drop (i + 1) program.methods) before (is ∙ ap (λ f. with_method f program old method i) class))
+    subst (λ n. IsSoFar program new n (drop (i + 1) program.methods)) e
+    (one_indexed program old new i method (drop (i + 1) program.methods) before is)
 
 or_none : (found : Option ℕ) → or_else found None ≡ found
 or_none None = refl
@@ -122,11 +123,11 @@ none_left [] (suc i) h = refl
 none_left (m ∷ ms) zero h = absurd (omega arith)
 none_left (m ∷ ms) (suc i) h = none_left ms i (omega arith)
 
-pub all_indexed : (first_class : ℕ) (program : Program) (entries : List (List ℕ × ℕ)) (i : ℕ) (methods : List Method) → methods ≡ program.methods → length methods ≤ i
-    → IsSoFar first_class program entries i (drop i program.methods) → (text : List ℕ) → entry_of entries text ≡ method_named first_class program text
-all_indexed first_class program entries i methods same past so_far text =
+pub all_indexed : (program : Program) (entries : List (List ℕ × ℕ)) (i : ℕ) (methods : List Method) → methods ≡ program.methods → length methods ≤ i
+    → IsSoFar program entries i (drop i program.methods) → (text : List ℕ) → entry_of entries text ≡ method_named program text
+all_indexed program entries i methods same past so_far text =
     let inside : length program.methods ≤ i = subst (λ (ms : List Method). length ms ≤ i) same past in
-    sym (or_none (entry_of entries text)) ∙ ap (λ (ms : List Method). or_else (entry_of entries text) (named_from first_class program text i ms)) (sym (none_left program.methods i inside)) ∙ so_far.finds text
+    sym (or_none (entry_of entries text)) ∙ ap (λ (ms : List Method). or_else (entry_of entries text) (named_from program text i ms)) (sym (none_left program.methods i inside)) ∙ so_far.finds text
 
 -- ---- numbers
 
@@ -134,15 +135,15 @@ below_by : (b : Bool) (n end : ℕ) (more : Option ℕ) → n < end → IfSome m
 below_by true n end more h rest = h
 below_by false n end more h rest = rest
 
-pub named_from-below : (first_class : ℕ) (program : Program) (text : List ℕ) (n end : ℕ) (methods : List Method) → n + length methods ≡ end
-    → IfSome (named_from first_class program text n methods) (λ m. m < end)
-named_from-below first_class program text n end [] e = tt
-named_from-below first_class program text n end (method ∷ methods) e =
-    below_by (is_spelled first_class program text method) n end _ (omega arith) (named_from-below first_class program text (suc n) end methods (omega arith))
+pub named_from-below : (program : Program) (text : List ℕ) (n end : ℕ) (methods : List Method) → n + length methods ≡ end
+    → IfSome (named_from program text n methods) (λ m. m < end)
+named_from-below program text n end [] e = tt
+named_from-below program text n end (method ∷ methods) e =
+    below_by (is_spelled program text method) n end _ (omega arith) (named_from-below program text (suc n) end methods (omega arith))
 
-pub no_missing : (first_class : ℕ) (program : Program) (text : List ℕ) (n : ℕ) → method_named first_class program text ≡ Some n → None ≡ method_at program n → ⊥
-no_missing first_class program text n named missing =
-    let below : n < length program.methods = at_some (λ m. m < length program.methods) (method_named first_class program text) n
-    (named_from-below first_class program text 0 (length program.methods) program.methods (omega arith)) named in
+pub no_missing : (program : Program) (text : List ℕ) (n : ℕ) → method_named program text ≡ Some n → None ≡ method_at program n → ⊥
+no_missing program text n named missing =
+    let below : n < length program.methods = at_some (λ m. m < length program.methods) (method_named program text) n
+    (named_from-below program text 0 (length program.methods) program.methods (omega arith)) named in
     let (method, found) = method_below program.methods n below in
     absurd (cc)

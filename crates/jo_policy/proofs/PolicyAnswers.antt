@@ -28,8 +28,8 @@ pub or_memory : (F G : PolicyFault → Type 0) → ((f : PolicyFault) → F f �
 or_memory F G go Memory h = tt
 or_memory F G go fault h = go fault h
 
-pub key_stops : (first_class : ℕ) (program : Program) (tree : Members) (fault : PolicyFault) → Fails fault (written_of tree) → OrMemory (IsFaultBeforeThreads first_class program tree) fault
-key_stops first_class program tree fault h = fails_to (written_of tree) (IsFaultBeforeThreads first_class program tree) (λ f e. of_key e) fault h
+pub key_stops : (program : Program) (tree : Members) (fault : PolicyFault) → Fails fault (written_of tree) → OrMemory (IsFaultBeforeThreads program tree) fault
+key_stops program tree fault h = fails_to (written_of tree) (IsFaultBeforeThreads program tree) (λ f e. of_key e) fault h
 
 -- the levels of a tree have an order without its pairs
 pub record IsSaid (tree : Members) (written : WrittenPolicy) : Type 0 where
@@ -43,26 +43,26 @@ fault_with : (written : WrittenPolicy) (names : List (List ℕ)) (pairs others :
     → IsOrderFault written.levels others fault
 fault_with written names pairs others fault e f h = subst (λ ps. IsOrderFault written.levels ps fault) f (subst (λ ns. IsOrderFault ns pairs fault) e h)
 
-pub names_stop : (first_class : ℕ) (program : Program) (tree : Members) (written : WrittenPolicy) (names : List (List ℕ)) (pairs : List (ℕ × ℕ)) (fault : PolicyFault) → written_of tree ≡ Ok written
-    → names ≡ written.levels → pairs ≡ [] → OrMemory (IsOrderFault names pairs) fault → OrMemory (IsFaultBeforeThreads first_class program tree) fault
-names_stop first_class program tree written names pairs fault said e f h =
-    or_memory (IsOrderFault names pairs) (IsFaultBeforeThreads first_class program tree) (λ g o. of_names written said (fault_with written names pairs [] g e f o)) fault h
+pub names_stop : (program : Program) (tree : Members) (written : WrittenPolicy) (names : List (List ℕ)) (pairs : List (ℕ × ℕ)) (fault : PolicyFault) → written_of tree ≡ Ok written
+    → names ≡ written.levels → pairs ≡ [] → OrMemory (IsOrderFault names pairs) fault → OrMemory (IsFaultBeforeThreads program tree) fault
+names_stop program tree written names pairs fault said e f h =
+    or_memory (IsOrderFault names pairs) (IsFaultBeforeThreads program tree) (λ g o. of_names written said (fault_with written names pairs [] g e f o)) fault h
 
-pub unknown_stops : (first_class : ℕ) (program : Program) (tree : Members) (written : WrittenPolicy) (fault : PolicyFault) → IsSaid tree written → Fails fault (numbered_of written)
-    → OrMemory (IsFaultBeforeThreads first_class program tree) fault
-unknown_stops first_class program tree written fault is h = fails_to (numbered_of written) (IsFaultBeforeThreads first_class program tree) (λ f e. of_unknown written is.said is.named e) fault h
+pub unknown_stops : (program : Program) (tree : Members) (written : WrittenPolicy) (fault : PolicyFault) → IsSaid tree written → Fails fault (numbered_of written)
+    → OrMemory (IsFaultBeforeThreads program tree) fault
+unknown_stops program tree written fault is h = fails_to (numbered_of written) (IsFaultBeforeThreads program tree) (λ f e. of_unknown written is.said is.named e) fault h
 
-pub cycle_stops : (first_class : ℕ) (program : Program) (tree : Members) (written : WrittenPolicy) (numbered : NumberedPolicy) (names : List (List ℕ)) (pairs : List (ℕ × ℕ)) (fault : PolicyFault)
+pub cycle_stops : (program : Program) (tree : Members) (written : WrittenPolicy) (numbered : NumberedPolicy) (names : List (List ℕ)) (pairs : List (ℕ × ℕ)) (fault : PolicyFault)
     → IsSaid tree written → numbered_of written ≡ Ok numbered → names ≡ written.levels → pairs ≡ numbered.flows → OrMemory (IsOrderFault names pairs) fault
-    → OrMemory (IsFaultBeforeThreads first_class program tree) fault
-cycle_stops first_class program tree written numbered names pairs fault is known e f h =
-    or_memory (IsOrderFault names pairs) (IsFaultBeforeThreads first_class program tree) (λ g o. of_cycle written numbered is.said is.named known (fault_with written names pairs numbered.flows g e f o)) fault h
+    → OrMemory (IsFaultBeforeThreads program tree) fault
+cycle_stops program tree written numbered names pairs fault is known e f h =
+    or_memory (IsOrderFault names pairs) (IsFaultBeforeThreads program tree) (λ g o. of_cycle written numbered is.said is.named known (fault_with written names pairs numbered.flows g e f o)) fault h
 
-pub policy_answers : (first_class : ℕ) (program : Program) (tree : Members) (written : WrittenPolicy) (numbered : NumberedPolicy) (result : Read Policy) → IsSaid tree written → numbered_of written ≡ Ok numbered
-    → GiveOrder written.levels numbered.flows → Gives (λ (policy : Policy). policy.labels) result (labels_of first_class program written numbered)
+pub policy_answers : (program : Program) (tree : Members) (written : WrittenPolicy) (numbered : NumberedPolicy) (result : Read Policy) → IsSaid tree written → numbered_of written ≡ Ok numbered
+    → GiveOrder written.levels numbered.flows → Gives (λ (policy : Policy). policy.labels) result (labels_of program written numbered)
     → IfOk result (λ (policy : Policy). policy.contexts ≡ written.contexts)
-    → Answers (λ (policy : Policy). IsPolicyBeforeThreads first_class program tree policy.labels policy.contexts) (IsFaultBeforeThreads first_class program tree) result
-policy_answers first_class program tree written numbered (Ok policy) is known order labels contexts = record {
+    → Answers (λ (policy : Policy). IsPolicyBeforeThreads program tree policy.labels policy.contexts) (IsFaultBeforeThreads program tree) result
+policy_answers program tree written numbered (Ok policy) is known order labels contexts = record {
   written = written;
   said = is.said;
   named = is.named;
@@ -72,10 +72,10 @@ policy_answers first_class program tree written numbered (Ok policy) is known or
   labelled = labels;
   by_key = contexts;
 }
-policy_answers first_class program tree written numbered (Err fault) is known order labels contexts =
-    fails_to (labels_of first_class program written numbered) (IsFaultBeforeThreads first_class program tree) (λ f e. of_labels written numbered is.said is.named known order e) fault labels
+policy_answers program tree written numbered (Err fault) is known order labels contexts =
+    fails_to (labels_of program written numbered) (IsFaultBeforeThreads program tree) (λ f e. of_labels written numbered is.said is.named known order e) fault labels
 
-pub text_fault : {X : Type 0} (first_class : ℕ) (program : Program) (text : List ℕ) (tree : Members) (P : X → Type 0) (result : Read X) → IsTree text tree
-    → Answers P (IsFaultBeforeThreads first_class program tree) result → IfErr result (OrMemory (IsTextFaultBeforeThreads first_class program text))
-text_fault first_class program text tree P (Ok x) is h = tt
-text_fault first_class program text tree P (Err fault) is h = or_memory (IsFaultBeforeThreads first_class program tree) (IsTextFaultBeforeThreads first_class program text) (λ f e. of_tree tree is e) fault h
+pub text_fault : {X : Type 0} (program : Program) (text : List ℕ) (tree : Members) (P : X → Type 0) (result : Read X) → IsTree text tree
+    → Answers P (IsFaultBeforeThreads program tree) result → IfErr result (OrMemory (IsTextFaultBeforeThreads program text))
+text_fault program text tree P (Ok x) is h = tt
+text_fault program text tree P (Err fault) is h = or_memory (IsFaultBeforeThreads program tree) (IsTextFaultBeforeThreads program text) (λ f e. of_tree tree is e) fault h

@@ -1,6 +1,6 @@
 -- What a policy gives is well-labelled.
-use Rattle.std.proofs.Common.{◌≡◌, ℕ, ◌+◌, ◌<◌, ◌≤◌, Bool, true, not, List, [], ◌∷◌, length, map, get_or, Option, Some, None, IfSome, IsSome, is_none, zero, suc, refl, sym, ap, subst, ◌∙◌, arith, codes, add-one, ◌&&◌}
-use Rattle.std.specs.List.{AllByRecursion, slice_get}
+use Rattle.std.proofs.Common.{◌≡◌, ℕ, ◌+◌, ◌<◌, ◌≤◌, Bool, true, false, not, List, [], ◌∷◌, length, map, get_or, Option, Some, None, IfSome, IsSome, is_none, zero, suc, refl, sym, ap, subst, ◌∙◌, arith, codes, add-one, ◌&&◌}
+use Rattle.std.specs.List.{AllByRecursion, list_any, slice_get}
 use Rattle.std.specs.List.Sorted.{IsStrictlyIncreasing}
 use Rattle.std.specs.Str.{bytes_eq}
 use Rattle.std.proofs.lemmas.Bool.{and_parts, false≢true}
@@ -16,13 +16,15 @@ use Rattle.jo_prog.specs.declared.labels.Labels.{Labels}
 use Rattle.jo_prog.specs.declared.program.Program.{Program}
 use Rattle.jo_prog.specs.declared.program.Method.{Method}
 use Rattle.jo_prog.specs.declared.program.Code.{Code}
+use Rattle.jo_prog.specs.FileClasses.{is_of_files}
 use Rattle.jo_prog.specs.Labels.{label_among}
 use Rattle.jo_prog.specs.Numbers.{count_from}
 use Rattle.jo_prog.specs.Program.{method_at}
-use Rattle.jo_prog.specs.PlainCode.{desc_for, HasGoodLevels, IsLabelledNative, IsEntry, IsWellLabelled}
+use Rattle.jo_prog.specs.PlainCode.{desc_for, HasGoodLevels, IsLabelledNative, is_release, IsWellLabelled}
 use Rattle.jo_prog.specs.Spelling.{spelled_in}
-use Rattle.jo_policy.specs.PolicyFile.{levels_of, flows_of, entry_of, table_of, spellings_of, first_label, label_in, label_for, with_label, labelled_from, labels_are_good, are_apart, fits_label, labels_fit_from, where_holds, labelled_of, labels_with, labels_by, labels_from, keys_are_known, policy_of}
-use Rattle.jo_policy.proofs.PolicyParts.{if_then_some, at_some, level_named-below, IsPairOf, flows_of-below, count_from-below, entry_of-fits}
+use Rattle.jo_policy.specs.PolicyFile.{are_few_levels, levels_of, flows_of, entry_of, table_of, spellings_of, first_label, label_in, label_for, with_label, labelled_from, labels_are_good, are_apart, fits_label, labels_fit_from, are_of_files, where_holds, labelled_of, labels_with, labels_by, labels_from, keys_are_known, policy_of}
+use Rattle.jo_policy.proofs.FewLevels.{levels_of-few, few_apart, few_levels, few_mutual}
+use Rattle.jo_policy.proofs.PolicyParts.{if_then_some, at_some, level_named-below, AreFewPairs, CanEnter, flows_of-below, count_from-below, entry_of-fits}
 
 -- ---- facts of each element
 
@@ -151,15 +153,16 @@ good_levels labels (Source level) h = h
 good_levels labels (Sink level) h = h
 good_levels labels (Release from to) h = absurd h
 
-labelled_native : (program : Program) (labels : Labels) (item : Item) (method : Method) → method_at program item.0 ≡ Some method → fits_label method (Some item.1) ≡ true → HasLevel labels.levels item.1
+labelled_native : (program : Program) (labels : Labels) (item : Item) (method : Method) → method_at program item.0 ≡ Some method → is_of_files program method ≡ true → fits_label method (Some item.1) ≡ true → HasLevel labels.levels item.1
     → IsLabelledNative program labels item
-labelled_native program labels item method found fits has =
+labelled_native program labels item method found files fits has =
     let (is_static, rest) = and_parts (has_flag static_flag method.flags) _ fits in
     let (is_native, more) = and_parts (has_flag native_flag method.flags) _ rest in
     let (without_code, shape) = and_parts (is_none method.code) (bytes_eq method.desc (desc_for item.1)) more in
     record {
       method = method;
       found = found;
+      files = files;
       is_static = is_static;
       is_native = is_native;
       no_code = no_code method.code without_code;
@@ -167,49 +170,76 @@ labelled_native program labels item method found fits has =
       levels = good_levels labels item.1 has;
     }
 
-well_labelled : (program : Program) (labels : Labels) → AllByRecursion (IsPairOf labels.levels) labels.flows → labels.observers ≡ count_from 0 (length labels.levels) → IsEntry program labels.entry
-    → IsLabelling labels.levels 0 (length program.methods) labels.labelled → labels_fit_from labels.labelled 0 program.methods ≡ true → IsWellLabelled program labels
-well_labelled program labels pairs observers entry labelled fit = record {
-  pairs = pairs;
+files_at : (program : Program) (methods : List Method) (i : ℕ) (method : Method) → are_of_files program methods ≡ true → slice_get methods i ≡ Some method → is_of_files program method ≡ true
+files_at program [] i method all found = absurd (cc)
+files_at program (m ∷ ms) zero method all found =
+    subst (λ (x : Method). is_of_files program x ≡ true) (same_Some m method found) (and_parts (is_of_files program m) (are_of_files program ms) all).0
+files_at program (m ∷ ms) (suc i) method all found = files_at program ms i method (and_parts (is_of_files program m) (are_of_files program ms) all).1 found
+
+-- no label is a release
+no_release : (levels : List (List ℕ)) (end : ℕ) (items : List Item) → AllByRecursion (λ (item : Item). (item.0 < end) × HasLevel levels item.1) items → list_any is_release items ≡ false
+no_release levels end [] each = refl
+no_release levels end ((m, Source level) ∷ items) each = no_release levels end items each.1
+no_release levels end ((m, Sink level) ∷ items) each = no_release levels end items each.1
+no_release levels end ((m, Release from to) ∷ items) each = absurd each.0.1
+
+well_labelled : (program : Program) (labels : Labels) → are_few_levels labels.levels ≡ true → AreFewPairs labels.levels labels.flows → labels.observers ≡ count_from 0 (length labels.levels)
+    → CanEnter program labels.entry → IsLabelling labels.levels 0 (length program.methods) labels.labelled → are_of_files program program.methods ≡ true
+    → labels_fit_from labels.labelled 0 program.methods ≡ true → IsWellLabelled program labels
+well_labelled program labels few pairs observers entry labelled files fit = record {
+  distinct = few_apart labels.levels few;
+  few = few_levels labels.levels few;
+  pairs = pairs.0;
+  no_cycle = few_mutual labels.flows pairs.1;
   observers = rw observers (count_from-below 0 (length labels.levels) (length labels.levels) (omega arith));
-  entry = entry;
+  entry = record {
+    method = entry.method;
+    found = entry.found;
+    files = files_at program program.methods labels.entry entry.method files entry.found;
+    is_static = entry.is_static;
+    has_code = entry.has_code;
+    shape = entry.shape;
+  };
   natives = all_weaker (λ item. ((item.0 < length program.methods) × HasLevel labels.levels item.1) × IsFound labels.labelled 0 item) (IsLabelledNative program labels) labels.labelled
       (λ item known.
       let (method, found) = method_below program.methods item.0 known.0.0 in
       let fits = fits_at labels.labelled 0 program.methods fit item.0 item.0 method found (omega arith) in
-      labelled_native program labels item method found (rw (known.1.1) at fits) known.0.1)
+      labelled_native program labels item method found (files_at program program.methods item.0 method files found) (rw (known.1.1) at fits) known.0.1)
       (all_both (λ item. (item.0 < length program.methods) × HasLevel labels.levels item.1) (IsFound labels.labelled 0) labels.labelled labelled.each (each_found 0 labels.labelled labelled.ascends));
   in_order = in_order labels.labelled labelled.ascends;
-  each_native = λ m method found native. is_labelled method (label_among labels.labelled m) (fits_at labels.labelled 0 program.methods fit m m method found (omega arith)) native;
+  each_native = λ m method found of_files native. is_labelled method (label_among labels.labelled m) (fits_at labels.labelled 0 program.methods fit m m method found (omega arith)) native;
+  releases = λ some. absurd (false≢true (sym (no_release labels.levels (length program.methods) labels.labelled labelled.each) ∙ some));
 }
 
 -- ---- the policy
 
-with_some : (program : Program) (levels : List (List ℕ)) (pairs : List (ℕ × ℕ)) (entry : ℕ) (labelled : List Item) → AllByRecursion (IsPairOf levels) pairs → IsEntry program entry
+with_some : (program : Program) (levels : List (List ℕ)) (pairs : List (ℕ × ℕ)) (entry : ℕ) (labelled : List Item) → are_few_levels levels ≡ true → AreFewPairs levels pairs → CanEnter program entry
     → IsLabelling levels 0 (length program.methods) labelled → IfSome (labels_with program levels pairs entry labelled) (IsWellLabelled program)
-with_some program levels pairs entry labelled p e l =
-    if_then_some (IsWellLabelled program) (labels_fit_from labelled 0 program.methods) _ None
-    (λ fit. well_labelled program (record { levels = levels; flows = pairs; observers = count_from 0 (length levels); entry = entry; labelled = labelled }) p refl e l fit)
+with_some program levels pairs entry labelled few p e l =
+    if_then_some (IsWellLabelled program) (are_of_files program program.methods && labels_fit_from labelled 0 program.methods) _ None
+    (λ both.
+    let (files, fit) = and_parts (are_of_files program program.methods) (labels_fit_from labelled 0 program.methods) both in
+    well_labelled program (record { levels = levels; flows = pairs; observers = count_from 0 (length levels); entry = entry; labelled = labelled }) few p refl e l files fit)
     tt
 
-by_some : (program : Program) (levels : List (List ℕ)) (flows : Option (List (ℕ × ℕ))) (entry : Option ℕ) (labelled : Option (List Item)) → IfSome flows (AllByRecursion (IsPairOf levels))
-    → IfSome entry (IsEntry program) → IfSome labelled (IsLabelling levels 0 (length program.methods)) → IfSome (labels_by program levels flows entry labelled) (IsWellLabelled program)
-by_some program levels None entry labelled p e l = tt
-by_some program levels (Some pairs) None labelled p e l = tt
-by_some program levels (Some pairs) (Some entry) None p e l = tt
-by_some program levels (Some pairs) (Some entry) (Some labelled) p e l = with_some program levels pairs entry labelled p e l
+by_some : (program : Program) (levels : List (List ℕ)) (flows : Option (List (ℕ × ℕ))) (entry : Option ℕ) (labelled : Option (List Item)) → are_few_levels levels ≡ true → IfSome flows (AreFewPairs levels)
+    → IfSome entry (CanEnter program) → IfSome labelled (IsLabelling levels 0 (length program.methods)) → IfSome (labels_by program levels flows entry labelled) (IsWellLabelled program)
+by_some program levels None entry labelled few p e l = tt
+by_some program levels (Some pairs) None labelled few p e l = tt
+by_some program levels (Some pairs) (Some entry) None few p e l = tt
+by_some program levels (Some pairs) (Some entry) (Some labelled) few p e l = with_some program levels pairs entry labelled few p e l
 
 labels_of_program : (program : Program) (levels : List (List ℕ)) (sources sinks : Option Members) → IfSome (labelled_of (spellings_of program) levels sources sinks) (IsLabelling levels 0 (length program.methods))
 labels_of_program program levels sources sinks =
     let e : length (spellings_of program) ≡ length program.methods = length-map program.methods (λ (m : Method). spelled_in program (Some m)) in
     subst (λ (n : ℕ). IfSome (labelled_of (spellings_of program) levels sources sinks) (IsLabelling levels 0 n)) e (labelled_of-labels (spellings_of program) levels sources sinks)
 
-from_some : (tree : Members) (program : Program) (levels : Option (List (List ℕ))) → IfSome (labels_from tree program levels) (IsWellLabelled program)
-from_some tree program None = tt
-from_some tree program (Some levels) =
+from_some : (tree : Members) (program : Program) (levels : Option (List (List ℕ))) → IfSome levels (λ levels. are_few_levels levels ≡ true) → IfSome (labels_from tree program levels) (IsWellLabelled program)
+from_some tree program None few = tt
+from_some tree program (Some levels) few =
     by_some program levels (flows_of levels (get_member (codes "flows") tree)) (entry_of program (get_member (codes "entry") tree))
     (labelled_of (spellings_of program) levels (table_of (get_member (codes "sources") tree)) (table_of (get_member (codes "sinks") tree)))
-    (flows_of-below levels (get_member (codes "flows") tree)) (entry_of-fits program (get_member (codes "entry") tree))
+    few (flows_of-below levels (get_member (codes "flows") tree)) (entry_of-fits program (get_member (codes "entry") tree))
     (labels_of_program program levels (table_of (get_member (codes "sources") tree)) (table_of (get_member (codes "sinks") tree)))
 
 -- the labels that a policy gives to a program are good ones
@@ -217,7 +247,7 @@ pub policy_of-well_labelled : (tree : Members) (program : Program) → IfSome (p
 unfolding policy_of
 policy_of-well_labelled tree program =
     if_then_some (IsWellLabelled program) (keys_are_known tree) (labels_from tree program (levels_of (get_member (codes "levels") tree))) None
-    (λ _. from_some tree program (levels_of (get_member (codes "levels") tree))) tt
+    (λ _. from_some tree program (levels_of (get_member (codes "levels") tree)) (levels_of-few (get_member (codes "levels") tree))) tt
 
 pub well_labelled_from_policy : (tree : Members) (program : Program) (labels : Labels) → policy_of tree program ≡ Some labels → IsWellLabelled program labels
 well_labelled_from_policy tree program labels is = at_some (IsWellLabelled program) (policy_of tree program) labels (policy_of-well_labelled tree program) is

@@ -18,23 +18,23 @@ use Rattle.jo_policy.specs.Policies.{labels_of, labels_with}
 use Rattle.jo_policy.proofs.PolicyOrders.{same_flow}
 use Rattle.jo_policy.proofs.Tables.{unlabelled_in}
 
-pub same_labelled : (first_class : ℕ) (program : Program) (pairs : List (ℕ × ℕ)) (order : Levels) (labels : List NumberedLabel) → FlowsBy pairs order
-    → labelled_of first_class (flows_by pairs) program labels ≡ labelled_of first_class (flows order) program labels
-same_labelled first_class program pairs order labels by = ap (λ (f : ℕ → ℕ → Bool). labelled_of first_class f program labels) (sym (same_flow pairs order by))
+pub same_labelled : (program : Program) (pairs : List (ℕ × ℕ)) (order : Levels) (labels : List NumberedLabel) → FlowsBy pairs order
+    → labelled_of (flows_by pairs) program labels ≡ labelled_of (flows order) program labels
+same_labelled program pairs order labels by = ap (λ (f : ℕ → ℕ → Bool). labelled_of f program labels) (sym (same_flow pairs order by))
 
-pub labels_made : (first_class : ℕ) (program : Program) (written : WrittenPolicy) (numbered : NumberedPolicy) (order : Levels) (labelled : List Item) (entry : ℕ) → FlowsBy numbered.flows order
-    → labelled_of first_class (flows order) program numbered.labels ≡ Ok labelled → or_fault Entry (entry_named first_class program written.entry) ≡ Ok entry
-    → labels_of first_class program written numbered ≡ Ok (labels_with written numbered entry labelled)
-labels_made first_class program written numbered order labelled entry by is found = rw (same_labelled first_class program numbered.flows order numbered.labels by, is, found) refl
+pub labels_made : (program : Program) (written : WrittenPolicy) (numbered : NumberedPolicy) (order : Levels) (labelled : List Item) (entry : ℕ) → FlowsBy numbered.flows order
+    → labelled_of (flows order) program numbered.labels ≡ Ok labelled → or_fault Entry (entry_named program written.entry) ≡ Ok entry
+    → labels_of program written numbered ≡ Ok (labels_with written numbered entry labelled)
+labels_made program written numbered order labelled entry by is found = rw (same_labelled program numbered.flows order numbered.labels by, is, found) refl
 
-pub labels_stop : (first_class : ℕ) (program : Program) (written : WrittenPolicy) (numbered : NumberedPolicy) (order : Levels) (fault : PolicyFault) → FlowsBy numbered.flows order
-    → labelled_of first_class (flows order) program numbered.labels ≡ Err fault → labels_of first_class program written numbered ≡ Err fault
-labels_stop first_class program written numbered order fault by is = rw (same_labelled first_class program numbered.flows order numbered.labels by, is) refl
+pub labels_stop : (program : Program) (written : WrittenPolicy) (numbered : NumberedPolicy) (order : Levels) (fault : PolicyFault) → FlowsBy numbered.flows order
+    → labelled_of (flows order) program numbered.labels ≡ Err fault → labels_of program written numbered ≡ Err fault
+labels_stop program written numbered order fault by is = rw (same_labelled program numbered.flows order numbered.labels by, is) refl
 
-pub entry_stops : (first_class : ℕ) (program : Program) (written : WrittenPolicy) (numbered : NumberedPolicy) (order : Levels) (labelled : List Item) (fault : PolicyFault) → FlowsBy numbered.flows order
-    → labelled_of first_class (flows order) program numbered.labels ≡ Ok labelled → or_fault Entry (entry_named first_class program written.entry) ≡ Err fault
-    → labels_of first_class program written numbered ≡ Err fault
-entry_stops first_class program written numbered order labelled fault by is found = rw (same_labelled first_class program numbered.flows order numbered.labels by, is, found) refl
+pub entry_stops : (program : Program) (written : WrittenPolicy) (numbered : NumberedPolicy) (order : Levels) (labelled : List Item) (fault : PolicyFault) → FlowsBy numbered.flows order
+    → labelled_of (flows order) program numbered.labels ≡ Ok labelled → or_fault Entry (entry_named program written.entry) ≡ Err fault
+    → labels_of program written numbered ≡ Err fault
+entry_stops program written numbered order labelled fault by is found = rw (same_labelled program numbered.flows order numbered.labels by, is, found) refl
 
 -- ---- the checks of labels, one after another
 
@@ -42,8 +42,8 @@ abbrev pub Read : Type 0
 Read = Result (Unit {0}) PolicyFault
 
 -- the labels are placed, and these checks are still to come
-pub labelled_placed : (first_class : ℕ) (f : ℕ → ℕ → Bool) (program : Program) (labels : List NumberedLabel) (placed : List Item) → placed_by first_class program labels ≡ Ok placed
-    → labelled_of first_class f program labels ≡ (refused TwiceLabelled (first_twice placed) >>= (λ _. refused WrongShape (first_misshapen program placed)
-    >>= (λ _. refused UnlabelledNative (first_unlabelled first_class program placed) >>= (λ _. refused ReleaseUpward (first_upward f placed)
+pub labelled_placed : (f : ℕ → ℕ → Bool) (program : Program) (labels : List NumberedLabel) (placed : List Item) → placed_by program labels ≡ Ok placed
+    → labelled_of f program labels ≡ (refused TwiceLabelled (first_twice placed) >>= (λ _. refused WrongShape (first_misshapen program placed)
+    >>= (λ _. refused UnlabelledNative (first_unlabelled program placed) >>= (λ _. refused ReleaseUpward (first_upward f placed)
     >>= (λ _. Ok (ordered_from 0 (table_of (length program.methods) placed)))))))
-labelled_placed first_class f program labels placed is = rw is refl
+labelled_placed f program labels placed is = rw is refl

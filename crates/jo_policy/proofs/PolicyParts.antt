@@ -1,5 +1,5 @@
 -- What holds of the parts that a policy is read as: the levels of pairs and labels are there, and the entry can be one.
-use Rattle.std.proofs.Common.{◌≡◌, ℕ, ◌+◌, ◌<◌, Bool, true, false, cond, List, [], ◌∷◌, length, Option, Some, None, IfSome, option_and_then, option_map, zero, suc, refl, arith, codes}
+use Rattle.std.proofs.Common.{◌≡◌, ℕ, ◌+◌, ◌<◌, ◌≤◌, Bool, true, false, cond, List, [], ◌∷◌, length, Option, Some, None, IfSome, IsSome, option_and_then, option_map, zero, suc, refl, arith, codes}
 use Rattle.std.specs.List.{AllByRecursion}
 use Rattle.std.specs.Str.{bytes_eq}
 use Rattle.std.proofs.lemmas.Bool.{and_parts}
@@ -11,7 +11,7 @@ use Rattle.jo_prog.specs.declared.program.Program.{Program}
 use Rattle.jo_prog.specs.declared.program.Method.{Method}
 use Rattle.jo_prog.specs.Numbers.{count_from}
 use Rattle.jo_prog.specs.Program.{method_at}
-use Rattle.jo_prog.specs.PlainCode.{is_entry_desc, IsEntry}
+use Rattle.jo_prog.specs.PlainCode.{is_entry_desc}
 use Rattle.jo_policy.specs.PolicyFile.{place_from, level_named, pair_of, pairs_of, flows_of, is_entry, entry_with, entry_of, spellings_of, method_named}
 
 -- ---- what holds of the value in a `Some`
@@ -61,18 +61,22 @@ pair_of-below levels (item a (item b no_items)) =
     (λ x here. map_some (IsPairOf levels) (level_named levels (Some b)) (λ y. (x, y)) (IfSome_then (level_named levels (Some b)) (level_named-below levels (Some b)) (λ y there. (here, there))))
 pair_of-below levels (item a (item b (item c more))) = tt
 
-pairs_of-below : (levels : List (List ℕ)) (items : Items) → IfSome (pairs_of levels items) (AllByRecursion (IsPairOf levels))
-pairs_of-below levels no_items = tt
+-- at most one pair
+abbrev pub AreFewPairs : List (List ℕ) → List (ℕ × ℕ) → Type 0
+AreFewPairs levels pairs = AllByRecursion (IsPairOf levels) pairs × (length pairs ≤ 1)
+
+pairs_of-below : (levels : List (List ℕ)) (items : Items) → IfSome (pairs_of levels items) (AreFewPairs levels)
+pairs_of-below levels no_items = (tt, omega arith)
 pairs_of-below levels (item value no_items) =
-    map_some (AllByRecursion (IsPairOf levels)) (option_and_then (pair_of levels) (as_array value)) (λ pair. pair ∷ [])
-    (and_then_some (λ items. Unit {0}) (λ pair. AllByRecursion (IsPairOf levels) (pair ∷ [])) (as_array value) (pair_of levels) (any_some _)
-    (λ items _. IfSome_then (pair_of levels items) (pair_of-below levels items) (λ pair below. (below, tt))))
+    map_some (AreFewPairs levels) (option_and_then (pair_of levels) (as_array value)) (λ pair. pair ∷ [])
+    (and_then_some (λ items. Unit {0}) (λ pair. AreFewPairs levels (pair ∷ [])) (as_array value) (pair_of levels) (any_some _)
+    (λ items _. IfSome_then (pair_of levels items) (pair_of-below levels items) (λ pair below. ((below, tt), omega arith))))
 pairs_of-below levels (item a (item b more)) = tt
 
-pub flows_of-below : (levels : List (List ℕ)) (value : Option Data) → IfSome (flows_of levels value) (AllByRecursion (IsPairOf levels))
-flows_of-below levels None = tt
+pub flows_of-below : (levels : List (List ℕ)) (value : Option Data) → IfSome (flows_of levels value) (AreFewPairs levels)
+flows_of-below levels None = (tt, omega arith)
 flows_of-below levels (Some value) =
-    and_then_some (λ items. Unit {0}) (AllByRecursion (IsPairOf levels)) (as_array value) (pairs_of levels) (any_some _) (λ items _. pairs_of-below levels items)
+    and_then_some (λ items. Unit {0}) (AreFewPairs levels) (as_array value) (pairs_of levels) (any_some _) (λ items _. pairs_of-below levels items)
 
 -- the numbers counted are below the end
 pub count_from-below : (first n end : ℕ) → first + n ≡ end → AllByRecursion (λ l. l < end) (count_from first n)
@@ -81,17 +85,25 @@ count_from-below first (suc n) end e = (omega arith, count_from-below (suc first
 
 -- ---- the entry
 
-entry_at : (program : Program) (m : ℕ) (o : Option Method) → method_at program m ≡ o → IfSome (entry_with m o) (IsEntry program)
+-- what is asked of an entry, but that it is of the files
+pub record CanEnter (program : Program) (m : ℕ) : Type 0 where
+  pub method : Method
+  pub found : method_at program m ≡ Some method
+  pub is_static : has_flag static_flag method.flags ≡ true
+  pub has_code : IsSome method.code
+  pub shape : is_entry_desc method.desc ≡ true
+
+entry_at : (program : Program) (m : ℕ) (o : Option Method) → method_at program m ≡ o → IfSome (entry_with m o) (CanEnter program)
 entry_at program m None found = tt
 entry_at program m (Some method) found =
-    if_then_some (IsEntry program) (is_entry method) (Some m) None
+    if_then_some (CanEnter program) (is_entry method) (Some m) None
     (λ fits.
     let (is_static, rest) = and_parts (has_flag static_flag method.flags) _ fits in
     let (has_code, shape) = and_parts _ (is_entry_desc method.desc) rest in
     record { method = method; found = found; is_static = is_static; has_code = has_code; shape = shape })
     tt
 
-pub entry_of-fits : (program : Program) (value : Option Data) → IfSome (entry_of program value) (IsEntry program)
+pub entry_of-fits : (program : Program) (value : Option Data) → IfSome (entry_of program value) (CanEnter program)
 entry_of-fits program value =
-    and_then_some (λ m. Unit {0}) (IsEntry program) (option_and_then (method_named (spellings_of program)) (option_and_then as_str value)) (λ m. entry_with m (method_at program m)) (any_some _)
+    and_then_some (λ m. Unit {0}) (CanEnter program) (option_and_then (method_named (spellings_of program)) (option_and_then as_str value)) (λ m. entry_with m (method_at program m)) (any_some _)
     (λ m _. entry_at program m (method_at program m) refl)

@@ -19,10 +19,10 @@ run_fails_to : {Y : Type 0} (read : RunRead Y) (F : RunFileFault → Type 0) →
 run_fails_to read F go Memory h = tt
 run_fails_to read F go fault h = go fault h
 
-pub run_fault : (first_class : ℕ) (program : Program) (labels : Labels) (text : List ℕ) (tree : Members) (result : RunRead RunPlan) → IsTree text tree
-    → RunGives (λ x. x) result (plan_of first_class program labels tree) → IfErr result (OrNoMemory (IsRunFault first_class program labels text))
-run_fault first_class program labels text tree (Ok plan) is h = tt
-run_fault first_class program labels text tree (Err fault) is h = run_fails_to (plan_of first_class program labels tree) (IsRunFault first_class program labels text) (λ f e. of_tree tree is e) fault h
+pub run_fault : (program : Program) (labels : Labels) (text : List ℕ) (tree : Members) (result : RunRead RunPlan) → IsTree text tree
+    → RunGives (λ x. x) result (plan_of program labels tree) → IfErr result (OrNoMemory (IsRunFault program labels text))
+run_fault program labels text tree (Ok plan) is h = tt
+run_fault program labels text tree (Err fault) is h = run_fails_to (plan_of program labels tree) (IsRunFault program labels text) (λ f e. of_tree tree is e) fault h
 
 -- ---- one input more
 
@@ -30,15 +30,15 @@ one_behind : (front : List PlacedInput) (one : PlacedInput) (read : RunRead (Lis
 one_behind front one (Err fault) = refl
 one_behind front one (Ok more) = ap (λ (items : List PlacedInput). let read : RunRead (List PlacedInput) = Ok items in read) (append_assoc front (one ∷ []) more)
 
-pub next_input : (first_class : ℕ) (program : Program) (labels : Labels) (inputs : List WrittenInput) (i : ℕ) (input : WrittenInput) (one : PlacedInput) (front new : List PlacedInput)
-    → i < length inputs → input ≡ get_or inputs i input → placed_input first_class program labels input ≡ Ok one → new ≡ front ++ one ∷ []
-    → behind front (placed_inputs first_class program labels (drop i inputs)) ≡ placed_inputs first_class program labels inputs
-    → behind new (placed_inputs first_class program labels (drop (i + 1) inputs)) ≡ placed_inputs first_class program labels inputs
-next_input first_class program labels inputs i input one front new below at found is so_far =
-    let rest = placed_inputs first_class program labels (drop (i + 1) inputs) in
+pub next_input : (program : Program) (labels : Labels) (inputs : List WrittenInput) (i : ℕ) (input : WrittenInput) (one : PlacedInput) (front new : List PlacedInput)
+    → i < length inputs → input ≡ get_or inputs i input → placed_input program labels input ≡ Ok one → new ≡ front ++ one ∷ []
+    → behind front (placed_inputs program labels (drop i inputs)) ≡ placed_inputs program labels inputs
+    → behind new (placed_inputs program labels (drop (i + 1) inputs)) ≡ placed_inputs program labels inputs
+next_input program labels inputs i input one front new below at found is so_far =
+    let rest = placed_inputs program labels (drop (i + 1) inputs) in
     let next : drop i inputs ≡ input ∷ drop (i + 1) inputs = drop_more inputs i input below ∙ ap (λ x. x ∷ drop (i + 1) inputs) (sym at) in
     ap (λ items. behind items rest) is
     ∙ one_behind front one rest
     ∙ sym (ap (λ (read : RunRead PlacedInput). behind front (read >>= (λ placed. rest >>= (λ more. Ok (placed ∷ more))))) found)
-    ∙ sym (ap (λ items. behind front (placed_inputs first_class program labels items)) next)
+    ∙ sym (ap (λ items. behind front (placed_inputs program labels items)) next)
     ∙ so_far

@@ -123,17 +123,17 @@ below_at count items j item all below at = subst (λ (x : Item). x.0 < count) (s
 same_first : (b : Bool) (n : ℕ) (x y : Option ℕ) → x ≡ y → cond b (Some n) x ≡ cond b (Some n) y
 same_first b n x y e = ap (cond b (Some n)) e
 
-pub same_unlabelled : (first_class : ℕ) (f g : ℕ → Option Label) (n end : ℕ) (methods : List Method) → n + length methods ≡ end → ((m : ℕ) → m < end → f m ≡ g m)
-    → unlabelled_from first_class f n methods ≡ unlabelled_from first_class g n methods
-same_unlabelled first_class f g n end [] e same = refl
-same_unlabelled first_class f g n end (method ∷ methods) e same =
-    ap (λ label. cond (is_unlabelled first_class method label) (Some n) (unlabelled_from first_class f (suc n) methods)) (same n (omega arith))
-    ∙ same_first (is_unlabelled first_class method (g n)) n _ _ (same_unlabelled first_class f g (suc n) end methods (omega arith) same)
+pub same_unlabelled : (program : Program) (f g : ℕ → Option Label) (n end : ℕ) (methods : List Method) → n + length methods ≡ end → ((m : ℕ) → m < end → f m ≡ g m)
+    → unlabelled_from program f n methods ≡ unlabelled_from program g n methods
+same_unlabelled program f g n end [] e same = refl
+same_unlabelled program f g n end (method ∷ methods) e same =
+    ap (λ label. cond (is_unlabelled program method label) (Some n) (unlabelled_from program f (suc n) methods)) (same n (omega arith))
+    ∙ same_first (is_unlabelled program method (g n)) n _ _ (same_unlabelled program f g (suc n) end methods (omega arith) same)
 
-pub unlabelled_in : (first_class count : ℕ) (placed : List Item) (methods : List Method) → length methods ≡ count
-    → unlabelled_from first_class (table_at (table_of count placed)) 0 methods ≡ unlabelled_from first_class (label_among placed) 0 methods
-unlabelled_in first_class count placed methods e =
-    same_unlabelled first_class (table_at (table_of count placed)) (label_among placed) 0 count methods (omega arith) (λ m below. table_at-among count placed m below)
+pub unlabelled_in : (program : Program) (count : ℕ) (placed : List Item) (methods : List Method) → length methods ≡ count
+    → unlabelled_from program (table_at (table_of count placed)) 0 methods ≡ unlabelled_from program (label_among placed) 0 methods
+unlabelled_in program count placed methods e =
+    same_unlabelled program (table_at (table_of count placed)) (label_among placed) 0 count methods (omega arith) (λ m below. table_at-among count placed m below)
 
 -- ---- each labelled method is one of the program
 
@@ -148,19 +148,19 @@ or_fault_ok : (P : ℕ → Type 0) (fault : PolicyFault) (found : Option ℕ) �
 or_fault_ok P fault None p = tt
 or_fault_ok P fault (Some m) p = p
 
-placed_all : (first_class : ℕ) (program : Program) (labels : List NumberedLabel) → IfOk (placed_by first_class program labels) (AreBelow (length program.methods))
-placed_all first_class program [] = tt
-placed_all first_class program (label ∷ labels) =
-    ok_then (λ m. m < length program.methods) (AreBelow (length program.methods)) (or_fault (MissingMethod label.method) (method_named first_class program label.method)) _
-    (or_fault_ok (λ m. m < length program.methods) _ (method_named first_class program label.method) (named_from-below first_class program label.method 0 (length program.methods) program.methods (omega arith)))
-    (λ m below. ok_then (AreBelow (length program.methods)) (AreBelow (length program.methods)) (placed_by first_class program labels) _ (placed_all first_class program labels) (λ more all. (below, all)))
+placed_all : (program : Program) (labels : List NumberedLabel) → IfOk (placed_by program labels) (AreBelow (length program.methods))
+placed_all program [] = tt
+placed_all program (label ∷ labels) =
+    ok_then (λ m. m < length program.methods) (AreBelow (length program.methods)) (or_fault (MissingMethod label.method) (method_named program label.method)) _
+    (or_fault_ok (λ m. m < length program.methods) _ (method_named program label.method) (named_from-below program label.method 0 (length program.methods) program.methods (omega arith)))
+    (λ m below. ok_then (AreBelow (length program.methods)) (AreBelow (length program.methods)) (placed_by program labels) _ (placed_all program labels) (λ more all. (below, all)))
 
 pub at_ok : {A : Type 0} (P : A → Type 0) (read : Result A PolicyFault) (x : A) → IfOk read P → read ≡ Ok x → P x
 at_ok P (Err fault) x p is = absurd (cc)
 at_ok P (Ok y) x p is = let same : y ≡ x = cc in subst P same p
 
-pub placed_below : (first_class : ℕ) (program : Program) (labels : List NumberedLabel) (placed : List Item) → placed_by first_class program labels ≡ Ok placed → AreBelow (length program.methods) placed
-placed_below first_class program labels placed is = at_ok (AreBelow (length program.methods)) (placed_by first_class program labels) placed (placed_all first_class program labels) is
+pub placed_below : (program : Program) (labels : List NumberedLabel) (placed : List Item) → placed_by program labels ≡ Ok placed → AreBelow (length program.methods) placed
+placed_below program labels placed is = at_ok (AreBelow (length program.methods)) (placed_by program labels) placed (placed_all program labels) is
 
 -- ---- the table beside the list
 

@@ -1,7 +1,7 @@
 -- A policy without a fault labels its program well.
 use Rattle.std.proofs.Common.{◌≡◌, ℕ, zero, suc, ◌+◌, ◌<◌, ◌≤◌, ◌==◌, ◌&&◌, Bool, true, false, not, cond, List, [], ◌∷◌, length, map, get_or, Option, Some, None, IfSome, IsSome, is_some, is_none, refl, sym, ap, ◌∙◌, subst, arith, codes}
 use Rattle.std.specs.Prelude.{Result, Ok, Err, IfOk, find, option_map, option_and_then, if◌then◌else◌}
-use Rattle.std.specs.List.{AllByRecursion, slice_get}
+use Rattle.std.specs.List.{AllByRecursion, list_any, slice_get}
 use Rattle.std.specs.List.Sorted.{IsStrictlyIncreasing}
 use Rattle.std.specs.Str.{bytes_eq}
 use Rattle.std.proofs.lemmas.Bool.{and_parts, false≢true}
@@ -16,10 +16,12 @@ use Rattle.jo_prog.specs.declared.labels.Labels.{Labels}
 use Rattle.jo_prog.specs.declared.program.Program.{Program}
 use Rattle.jo_prog.specs.declared.program.Method.{Method}
 use Rattle.jo_prog.specs.declared.program.Code.{Code}
+use Rattle.jo_prog.specs.FileClasses.{is_of_files}
 use Rattle.jo_prog.specs.Labels.{label_of, label_among, flows_by}
 use Rattle.jo_prog.specs.Numbers.{count_from}
-use Rattle.jo_prog.specs.PlainCode.{IsLabelledNative, HasGoodLevels, desc_for}
+use Rattle.jo_prog.specs.PlainCode.{IsLabelledNative, IsEntry, IsWellLabelled, is_release, is_entry_desc, HasGoodLevels, desc_for}
 use Rattle.jo_prog.specs.Program.{method_at}
+use Rattle.jo_prog.specs.Starts.{first_start}
 use Rattle.policy_tree.specs.declared.faults.PolicyFault.{PolicyFault}
 use Rattle.policy_tree.specs.declared.faults.PolicyFault.TheVariants.{Entry, TwiceLabelled, WrongShape, UnlabelledNative, ReleaseUpward, MissingMethod, UnknownLevel}
 use Rattle.policy_tree.specs.declared.written.NamedLabel.{NamedLabel}
@@ -29,12 +31,12 @@ use Rattle.policy_tree.specs.declared.written.WrittenPolicy.{WrittenPolicy}
 use Rattle.policy_tree.specs.Outcomes.{◌>>=◌, or_fault, refused}
 use Rattle.jo_policy.specs.declared.numbering.NumberedPolicy.{NumberedPolicy}
 use Rattle.jo_policy.specs.declared.numbering.NumberedLabel.{NumberedLabel}
-use Rattle.jo_policy.specs.FileMethods.{is_of_files, is_spelled, is_entry, entry_with, named_from, method_named, entry_named}
+use Rattle.jo_policy.specs.FileMethods.{is_spelled, is_entry, entry_with, named_from, method_named, entry_named}
 use Rattle.jo_policy.specs.Labelling.{Item, placed_by, labelled_of, first_twice, first_misshapen, misshapen_by, is_misshapen, first_unlabelled, is_unlabelled, first_upward, is_upward, unlabelled_from, table_at, table_of, ordered_from, method_of}
 use Rattle.jo_policy.specs.Numbering.{level_named, levels_numbered, observers_numbered, label_numbered, labels_numbered, pairs_numbered, numbered_of}
 use Rattle.jo_policy.specs.PolicyFile.{place_from, fits_label, with_label}
 use Rattle.jo_policy.specs.Policies.{labels_of, labels_with}
-use Rattle.jo_policy.specs.WellLabelled.{IsEntryOf, IsWhollyLabelled}
+use Rattle.jo_policy.proofs.OrderedLevels.{names_apart, no_mutual, pairs_known}
 use Rattle.jo_policy.proofs.PolicyLabels.{Ascends, ascends_before, in_order}
 use Rattle.jo_policy.proofs.PolicyParts.{if_then_some, place_from-below, count_from-below}
 use Rattle.jo_policy.proofs.Tables.{ok_then, at_ok, label_in_order, table_at-among}
@@ -54,30 +56,30 @@ or_fault_found fault None x e = absurd (cc)
 or_fault_found fault (Some y) x e = let same : y ≡ x = cc in ap Some same
 
 -- what a program's labels are made of
-pub record IsMadeOf (first_class : ℕ) (flows : ℕ → ℕ → Bool) (program : Program) (labels : List NumberedLabel) (labelled : List Item) : Type 0 where
+pub record IsMadeOf (flows : ℕ → ℕ → Bool) (program : Program) (labels : List NumberedLabel) (labelled : List Item) : Type 0 where
   pub placed : List Item
-  pub are_placed : placed_by first_class program labels ≡ Ok placed
+  pub are_placed : placed_by program labels ≡ Ok placed
   pub shaped : first_misshapen program placed ≡ None
-  pub each_labelled : first_unlabelled first_class program placed ≡ None
+  pub each_labelled : first_unlabelled program placed ≡ None
   pub down : first_upward flows placed ≡ None
   pub is : ordered_from 0 (table_of (length program.methods) placed) ≡ labelled
 
 same_ok : {A : Type 0} (x y : A) → (let read : Result A PolicyFault = Ok x in read) ≡ Ok y → x ≡ y
 same_ok x y e = cc
 
-pub made_of : (first_class : ℕ) (flows : ℕ → ℕ → Bool) (program : Program) (labels : List NumberedLabel) (labelled : List Item) → labelled_of first_class flows program labels ≡ Ok labelled
-    → IsMadeOf first_class flows program labels labelled
-made_of first_class flows program labels labelled e =
-    let (placed, is, e1) = bind_ok (placed_by first_class program labels) _ labelled e in
+pub made_of : (flows : ℕ → ℕ → Bool) (program : Program) (labels : List NumberedLabel) (labelled : List Item) → labelled_of flows program labels ≡ Ok labelled
+    → IsMadeOf flows program labels labelled
+made_of flows program labels labelled e =
+    let (placed, is, e1) = bind_ok (placed_by program labels) _ labelled e in
     let (u1, twice, e2) = bind_ok (refused TwiceLabelled (first_twice placed)) _ labelled e1 in
     let (u2, shaped, e3) = bind_ok (refused WrongShape (first_misshapen program placed)) _ labelled e2 in
-    let (u3, each, e4) = bind_ok (refused UnlabelledNative (first_unlabelled first_class program placed)) _ labelled e3 in
+    let (u3, each, e4) = bind_ok (refused UnlabelledNative (first_unlabelled program placed)) _ labelled e3 in
     let (u4, down, e5) = bind_ok (refused ReleaseUpward (first_upward flows placed)) _ labelled e4 in
     record {
       placed = placed;
       are_placed = is;
       shaped = refused_ok WrongShape (first_misshapen program placed) u2 shaped;
-      each_labelled = refused_ok UnlabelledNative (first_unlabelled first_class program placed) u3 each;
+      each_labelled = refused_ok UnlabelledNative (first_unlabelled program placed) u3 each;
       down = refused_ok ReleaseUpward (first_upward flows placed) u4 down;
       is = same_ok _ labelled e5;
     }
@@ -141,16 +143,51 @@ numbers_there written numbered e =
       labels = at_ok (HaveLevels (length written.levels)) (labels_numbered written.levels written.labels) labels (labels_below written.levels written.labels) is_labels;
     })
 
+-- ---- methods of the files
+
+abbrev pub NamedAt : Program → List Method → ℕ → ℕ → Type 0
+NamedAt program methods n m = (k : ℕ) × (m ≡ n + k) × IfSome (slice_get methods k) (λ method. is_of_files program method ≡ true)
+
+named_files : (program : Program) (text : List ℕ) (n : ℕ) (methods : List Method) → IfSome (named_from program text n methods) (NamedAt program methods n)
+named_files program text n [] = tt
+named_files program text n (x ∷ xs) =
+    if_then_some (NamedAt program (x ∷ xs) n) (is_spelled program text x) (Some n) (named_from program text (suc n) xs)
+    (λ spelled. (0, omega arith, (and_parts (is_of_files program x) _ spelled).0))
+    (IfSome_then (named_from program text (suc n) xs) (named_files program text (suc n) xs) (λ m at. (suc at.0, omega (arith, at.1), at.2)))
+
+-- a method of the files has this number
+abbrev pub IsOfFilesAt : Program → ℕ → Type 0
+IsOfFilesAt program m = IfSome (method_at program m) (λ method. is_of_files program method ≡ true)
+
+named_of_files : (program : Program) (text : List ℕ) → IfSome (method_named program text) (IsOfFilesAt program)
+named_of_files program text =
+    IfSome_then (method_named program text) (named_files program text 0 program.methods)
+    (λ m at. let same : at.0 ≡ m = omega (arith, at.1) in subst (IsOfFilesAt program) same at.2)
+
+or_fault_some : (P : ℕ → Type 0) (fault : PolicyFault) (o : Option ℕ) → IfSome o P → IfOk (or_fault fault o) P
+or_fault_some P fault None p = tt
+or_fault_some P fault (Some x) p = p
+
+abbrev pub ItemOfFiles : Program → Item → Type 0
+ItemOfFiles program item = IsOfFilesAt program item.0
+
+placed_of_files : (program : Program) (labels : List NumberedLabel) → IfOk (placed_by program labels) (AllByRecursion (ItemOfFiles program))
+placed_of_files program [] = tt
+placed_of_files program (label ∷ labels) =
+    ok_then (IsOfFilesAt program) (AllByRecursion (ItemOfFiles program)) (or_fault (MissingMethod label.method) (method_named program label.method)) _
+    (or_fault_some (IsOfFilesAt program) (MissingMethod label.method) (method_named program label.method) (named_of_files program label.method))
+    (λ m files. ok_then (AllByRecursion (ItemOfFiles program)) (AllByRecursion (ItemOfFiles program)) (placed_by program labels) _ (placed_of_files program labels) (λ more all. (files, all)))
+
 -- ---- each labelled method
 
 abbrev pub ItemHasLevels : ℕ → Item → Type 0
 ItemHasLevels count item = HasLevels count item.1
 
-placed_levels : (count first_class : ℕ) (program : Program) (labels : List NumberedLabel) → HaveLevels count labels → IfOk (placed_by first_class program labels) (AllByRecursion (ItemHasLevels count))
-placed_levels count first_class program [] h = tt
-placed_levels count first_class program (label ∷ labels) h =
-    ok_then (λ m. Unit {0}) (AllByRecursion (ItemHasLevels count)) (or_fault (MissingMethod label.method) (method_named first_class program label.method)) _ (any_number _)
-    (λ m _. ok_then (AllByRecursion (ItemHasLevels count)) (AllByRecursion (ItemHasLevels count)) (placed_by first_class program labels) _ (placed_levels count first_class program labels h.1) (λ more all. (h.0, all)))
+placed_levels : (count : ℕ) (program : Program) (labels : List NumberedLabel) → HaveLevels count labels → IfOk (placed_by program labels) (AllByRecursion (ItemHasLevels count))
+placed_levels count program [] h = tt
+placed_levels count program (label ∷ labels) h =
+    ok_then (λ m. Unit {0}) (AllByRecursion (ItemHasLevels count)) (or_fault (MissingMethod label.method) (method_named program label.method)) _ (any_number _)
+    (λ m _. ok_then (AllByRecursion (ItemHasLevels count)) (AllByRecursion (ItemHasLevels count)) (placed_by program labels) _ (placed_levels count program labels h.1) (λ more all. (h.0, all)))
   where
     any_number : (read : Result ℕ PolicyFault) → IfOk read (λ m. Unit {0})
     any_number (Err fault) = tt
@@ -212,11 +249,11 @@ good_levels labels (Source level) h u = h
 good_levels labels (Sink level) h u = h
 good_levels labels (Release from to) h u = (h.0, h.1, not_not (flows_by labels.flows to from) u)
 
-native_by : (program : Program) (labels : Labels) (item : Item) (o : Option Method) → method_at program item.0 ≡ o → is_misshapen program item ≡ false → HasLevels (length labels.levels) item.1
+native_by : (program : Program) (labels : Labels) (item : Item) (o : Option Method) → method_at program item.0 ≡ o → IfSome o (λ method. is_of_files program method ≡ true) → is_misshapen program item ≡ false → HasLevels (length labels.levels) item.1
     → is_upward (flows_by labels.flows) item.1 ≡ false → IsLabelledNative program labels item
-native_by program labels item None found fits has down =
+native_by program labels item None found files fits has down =
     let other : true ≡ false = subst (λ (o : Option Method). misshapen_by o item.1 ≡ false) found fits in absurd (cc)
-native_by program labels item (Some method) found fits has down =
+native_by program labels item (Some method) found files fits has down =
     let shape : fits_label method (Some item.1) ≡ true = not_not _ (subst (λ (o : Option Method). misshapen_by o item.1 ≡ false) found fits) in
     let (is_static, rest) = and_parts (has_flag static_flag method.flags) _ shape in
     let (is_native, more) = and_parts (has_flag native_flag method.flags) _ rest in
@@ -224,6 +261,7 @@ native_by program labels item (Some method) found fits has down =
     record {
       method = method;
       found = found;
+      files = files;
       is_static = is_static;
       is_native = is_native;
       no_code = no_code method.code without_code;
@@ -237,17 +275,17 @@ weaker P Q (x ∷ xs) f h = (f x h.0, weaker P Q xs f h.1)
 
 -- ---- each native method of the files
 
-unlabelled_none : (first_class : ℕ) (label : ℕ → Option Label) (n m k : ℕ) (methods : List Method) (method : Method) → unlabelled_from first_class label n methods ≡ None → slice_get methods k ≡ Some method
-    → m ≡ n + k → is_unlabelled first_class method (label m) ≡ false
-unlabelled_none first_class label n m k [] method e found at = absurd (cc)
-unlabelled_none first_class label n m zero (x ∷ xs) method e found at =
+unlabelled_none : (program : Program) (label : ℕ → Option Label) (n m k : ℕ) (methods : List Method) (method : Method) → unlabelled_from program label n methods ≡ None → slice_get methods k ≡ Some method
+    → m ≡ n + k → is_unlabelled program method (label m) ≡ false
+unlabelled_none program label n m k [] method e found at = absurd (cc)
+unlabelled_none program label n m zero (x ∷ xs) method e found at =
     let same : x ≡ method = cc in
     let here : n ≡ m = omega arith in
-    let parts = none_of (λ (k : ℕ). true) (unlabelled_from first_class label (suc n) xs) n (is_unlabelled first_class x (label n)) e in
-    subst (λ (k : ℕ). is_unlabelled first_class method (label k) ≡ false) here (subst (λ (y : Method). is_unlabelled first_class y (label n) ≡ false) same parts.0)
-unlabelled_none first_class label n m (suc k) (x ∷ xs) method e found at =
-    let parts = none_of (λ (k : ℕ). true) (unlabelled_from first_class label (suc n) xs) n (is_unlabelled first_class x (label n)) e in
-    unlabelled_none first_class label (suc n) m k xs method parts.1 found (omega arith)
+    let parts = none_of (λ (k : ℕ). true) (unlabelled_from program label (suc n) xs) n (is_unlabelled program x (label n)) e in
+    subst (λ (k : ℕ). is_unlabelled program method (label k) ≡ false) here (subst (λ (y : Method). is_unlabelled program y (label n) ≡ false) same parts.0)
+unlabelled_none program label n m (suc k) (x ∷ xs) method e found at =
+    let parts = none_of (λ (k : ℕ). true) (unlabelled_from program label (suc n) xs) n (is_unlabelled program x (label n)) e in
+    unlabelled_none program label (suc n) m k xs method parts.1 found (omega arith)
 
 is_labelled : (files native : Bool) (label : Option Label) → (files && (native && is_none label)) ≡ false → files ≡ true → native ≡ true → IsSome label
 is_labelled files native (Some label) e f n = refl
@@ -257,77 +295,77 @@ is_labelled false native None e f n = absurd (false≢true f)
 
 -- ---- the entry
 
-entry_by : (first_class : ℕ) (program : Program) (m entry : ℕ) (o : Option Method) → method_at program m ≡ o → IfSome o (λ method. is_of_files first_class method ≡ true) → entry_with m o ≡ Some entry
-    → IsEntryOf first_class program entry
-entry_by first_class program m entry None found files e = absurd (cc)
-entry_by first_class program m entry (Some method) found files e = entry_of_method (is_entry method) refl e
+entry_of_method : (program : Program) (m entry : ℕ) (method : Method) (b : Bool) → method_at program m ≡ Some method → is_of_files program method ≡ true → is_entry method ≡ b
+    → cond b (Some m) None ≡ Some entry → IsEntry program entry
+entry_of_method program m entry method true found files fits e =
+    let same : m ≡ entry = cc in
+    let (is_static, rest) = and_parts (has_flag static_flag method.flags) _ fits in
+    let (has_code, shape) = and_parts (is_some method.code) (is_entry_desc method.desc) rest in
+    subst (IsEntry program) same (record { method = method; found = found; files = files; is_static = is_static; has_code = has_code; shape = shape })
+entry_of_method program m entry method false found files fits e = absurd (cc)
+
+entry_by : (program : Program) (m entry : ℕ) (o : Option Method) → method_at program m ≡ o → IfSome o (λ method. is_of_files program method ≡ true) → entry_with m o ≡ Some entry
+    → IsEntry program entry
+entry_by program m entry None found files e = absurd (cc)
+entry_by program m entry (Some method) found files e = entry_of_method program m entry method (is_entry method) found files refl e
+
+entry_found : (program : Program) (text : List ℕ) (entry : ℕ) → entry_named program text ≡ Some entry → IsEntry program entry
+entry_found program text entry e = go (method_named program text) (named_of_files program text) e
   where
-    entry_of_method : (b : Bool) → is_entry method ≡ b → cond b (Some m) None ≡ Some entry → IsEntryOf first_class program entry
-    entry_of_method true fits e = let same : m ≡ entry = cc in subst (IsEntryOf first_class program) same (record { method = method; found = found; files = files; fits = fits })
-    entry_of_method false fits e = absurd (cc)
-
-abbrev pub NamedAt : ℕ → List Method → ℕ → ℕ → Type 0
-NamedAt first_class methods n m = (k : ℕ) × (m ≡ n + k) × IfSome (slice_get methods k) (λ method. is_of_files first_class method ≡ true)
-
-named_files : (first_class : ℕ) (program : Program) (text : List ℕ) (n : ℕ) (methods : List Method) → IfSome (named_from first_class program text n methods) (NamedAt first_class methods n)
-named_files first_class program text n [] = tt
-named_files first_class program text n (x ∷ xs) =
-    if_then_some (NamedAt first_class (x ∷ xs) n) (is_spelled first_class program text x) (Some n) (named_from first_class program text (suc n) xs)
-    (λ spelled. (0, omega arith, (and_parts (is_of_files first_class x) _ spelled).0))
-    (IfSome_then (named_from first_class program text (suc n) xs) (named_files first_class program text (suc n) xs) (λ m at. (suc at.0, omega (arith, at.1), at.2)))
-
-entry_found : (first_class : ℕ) (program : Program) (text : List ℕ) (entry : ℕ) → entry_named first_class program text ≡ Some entry → IsEntryOf first_class program entry
-entry_found first_class program text entry e = go (method_named first_class program text) (named_files first_class program text 0 program.methods) e
-  where
-    go : (o : Option ℕ) → IfSome o (NamedAt first_class program.methods 0) → option_and_then (λ m. entry_with m (method_at program m)) o ≡ Some entry → IsEntryOf first_class program entry
+    go : (o : Option ℕ) → IfSome o (IsOfFilesAt program) → option_and_then (λ m. entry_with m (method_at program m)) o ≡ Some entry → IsEntry program entry
     go None at e = absurd (cc)
-    go (Some m) at e =
-        let same : at.0 ≡ m = omega (arith, at.1) in
-        entry_by first_class program m entry (method_at program m) refl (subst (λ k. IfSome (slice_get program.methods k) (λ method. is_of_files first_class method ≡ true)) same at.2) e
+    go (Some m) at e = entry_by program m entry (method_at program m) refl at e
 
 -- ---- the policy
 
 -- what holds of each placed label
 abbrev Fits : Program → ℕ → (ℕ → ℕ → Bool) → Item → Type 0
-Fits program count flows item = ((is_misshapen program item ≡ false) × HasLevels count item.1) × (is_upward flows item.1 ≡ false)
+Fits program count flows item = ((is_misshapen program item ≡ false) × HasLevels count item.1) × ((is_upward flows item.1 ≡ false) × ItemOfFiles program item)
 
-placed_fit : (first_class count : ℕ) (flows : ℕ → ℕ → Bool) (program : Program) (labels : List NumberedLabel) (labelled : List Item) (made : IsMadeOf first_class flows program labels labelled)
+placed_fit : (count : ℕ) (flows : ℕ → ℕ → Bool) (program : Program) (labels : List NumberedLabel) (labelled : List Item) (made : IsMadeOf flows program labels labelled)
     → HaveLevels count labels → AllByRecursion (Fits program count flows) made.placed
-placed_fit first_class count flows program labels labelled made has =
-    both (λ item. (is_misshapen program item ≡ false) × HasLevels count item.1) (λ item. is_upward flows item.1 ≡ false) made.placed
+placed_fit count flows program labels labelled made has =
+    both (λ item. (is_misshapen program item ≡ false) × HasLevels count item.1) (λ item. (is_upward flows item.1 ≡ false) × ItemOfFiles program item) made.placed
     (both (λ item. is_misshapen program item ≡ false) (ItemHasLevels count) made.placed
     (all_pass (is_misshapen program) made.placed (no_method (find (is_misshapen program) made.placed) made.shaped))
-    (at_ok (AllByRecursion (ItemHasLevels count)) (placed_by first_class program labels) made.placed (placed_levels count first_class program labels has) made.are_placed))
+    (at_ok (AllByRecursion (ItemHasLevels count)) (placed_by program labels) made.placed (placed_levels count program labels has) made.are_placed))
+    (both (λ item. is_upward flows item.1 ≡ false) (ItemOfFiles program) made.placed
     (all_pass (λ (item : Item). is_upward flows item.1) made.placed (no_method (find (λ (item : Item). is_upward flows item.1) made.placed) made.down))
+    (at_ok (AllByRecursion (ItemOfFiles program)) (placed_by program labels) made.placed (placed_of_files program labels) made.are_placed))
 
-native_found : (first_class : ℕ) (flows : ℕ → ℕ → Bool) (program : Program) (labels : List NumberedLabel) (labelled : List Item) → IsMadeOf first_class flows program labels labelled
-    → (m : ℕ) (method : Method) → method_at program m ≡ Some method → is_of_files first_class method ≡ true → has_flag native_flag method.flags ≡ true → IsSome (label_among labelled m)
-native_found first_class flows program labels labelled made m method found files native =
+native_found : (flows : ℕ → ℕ → Bool) (program : Program) (labels : List NumberedLabel) (labelled : List Item) → IsMadeOf flows program labels labelled
+    → (m : ℕ) (method : Method) → method_at program m ≡ Some method → is_of_files program method ≡ true → has_flag native_flag method.flags ≡ true → IsSome (label_among labelled m)
+native_found flows program labels labelled made m method found files native =
     let below = slice_get_within program.methods m method found in
-    let none = unlabelled_none first_class (label_among made.placed) 0 m m program.methods method made.each_labelled found (omega arith) in
-    let there : IsSome (label_among made.placed m) = is_labelled (is_of_files first_class method) (has_flag native_flag method.flags) (label_among made.placed m) none files native in
+    let none = unlabelled_none program (label_among made.placed) 0 m m program.methods method made.each_labelled found (omega arith) in
+    let there : IsSome (label_among made.placed m) = is_labelled (is_of_files program method) (has_flag native_flag method.flags) (label_among made.placed m) none files native in
     let same : label_among made.placed m ≡ label_among labelled m =
     sym (table_at-among (length program.methods) made.placed m below) ∙ sym (label_in_order (table_of (length program.methods) made.placed) m) ∙ ap (λ ls. label_among ls m) made.is in
     subst (λ (o : Option Label). IsSome o) same there
 
-pub whole_labels : (first_class : ℕ) (program : Program) (written : WrittenPolicy) (numbered : NumberedPolicy) (labels : Labels) → GiveOrder written.levels numbered.flows → numbered_of written ≡ Ok numbered
-    → labels_of first_class program written numbered ≡ Ok labels → IsWhollyLabelled first_class program labels
-whole_labels first_class program written numbered labels order known e =
+pub whole_labels : (program : Program) (written : WrittenPolicy) (numbered : NumberedPolicy) (labels : Labels) → GiveOrder written.levels numbered.flows → numbered_of written ≡ Ok numbered
+    → labels_of program written numbered ≡ Ok labels → (list_any is_release labels.labelled ≡ true → first_start program ≡ None) → IsWellLabelled program labels
+whole_labels program written numbered labels order known e alone =
     let there = numbers_there written numbered known in
-    let (labelled, is_labelled, e1) = bind_ok (labelled_of first_class (flows_by numbered.flows) program numbered.labels) _ labels e in
-    let (entry, is_entry, e2) = bind_ok (or_fault Entry (entry_named first_class program written.entry)) _ labels e1 in
-    let made = made_of first_class (flows_by numbered.flows) program numbered.labels labelled is_labelled in
+    let (labelled, is_labelled, e1) = bind_ok (labelled_of (flows_by numbered.flows) program numbered.labels) _ labels e in
+    let (entry, is_entry, e2) = bind_ok (or_fault Entry (entry_named program written.entry)) _ labels e1 in
+    let made = made_of (flows_by numbered.flows) program numbered.labels labelled is_labelled in
     let made_labels = labels_with written numbered entry labelled in
-    let fit = placed_fit first_class (length written.levels) (flows_by numbered.flows) program numbered.labels labelled made there.labels in
+    let fit = placed_fit (length written.levels) (flows_by numbered.flows) program numbered.labels labelled made there.labels in
     let fit_in_order = ordered_holds (Fits program (length written.levels) (flows_by numbered.flows)) made.placed 0 (length program.methods) fit in
-    subst (IsWhollyLabelled first_class program) (same_ok made_labels labels e2) (record {
-      ordered = order;
+    let same : made_labels ≡ labels = same_ok made_labels labels e2 in
+    subst (IsWellLabelled program) same (record {
+      distinct = names_apart written.levels order.distinct;
+      few = order.few;
+      pairs = pairs_known (length written.levels) numbered.flows order.known;
+      no_cycle = no_mutual numbered.flows order.no_cycle;
       observers = there.observers;
-      entry = entry_found first_class program written.entry entry (or_fault_found Entry (entry_named first_class program written.entry) entry is_entry);
+      entry = entry_found program written.entry entry (or_fault_found Entry (entry_named program written.entry) entry is_entry);
       natives = subst (AllByRecursion (IsLabelledNative program made_labels)) made.is
           (weaker (Fits program (length written.levels) (flows_by numbered.flows)) (IsLabelledNative program made_labels) (ordered_from 0 (table_of (length program.methods) made.placed))
-          (λ item fits. native_by program made_labels item (method_at program item.0) refl fits.0.0 fits.0.1 fits.1) fit_in_order);
+          (λ item fits. native_by program made_labels item (method_at program item.0) refl fits.1.1 fits.0.0 fits.0.1 fits.1.0) fit_in_order);
       in_order = subst (λ (items : List Item). IsStrictlyIncreasing (map (λ (item : Item). item.0) items)) made.is
           (in_order (ordered_from 0 (table_of (length program.methods) made.placed)) (ordered_ascends 0 (table_of (length program.methods) made.placed)));
-      each_native = native_found first_class (flows_by numbered.flows) program numbered.labels labelled made;
+      each_native = native_found (flows_by numbered.flows) program numbered.labels labelled made;
+      releases = subst (λ (made : Labels). list_any is_release made.labelled ≡ true → first_start program ≡ None) (sym same) alone;
     })

@@ -1,32 +1,29 @@
 -- The methods of the files, as texts spell them (this project's own).
-use Rattle.std.specs.Prelude.{◌≡◌, ℕ, zero, suc, Bool, ◌&&◌, ◌||◌, nat_le, if◌then◌else◌, List, [], ◌∷◌, ◌++◌, map, Option, Some, None, is_some, option_and_then, Vec, codes}
+use Rattle.std.specs.Prelude.{◌≡◌, ℕ, zero, suc, Bool, ◌&&◌, ◌||◌, if◌then◌else◌, List, [], ◌∷◌, ◌++◌, map, Option, Some, None, is_some, option_and_then, Vec, codes}
 use Rattle.std.specs.declared.alloc.Global.{Global}
 use Rattle.std.specs.Str.{bytes_eq}
 use Rattle.jo_insn.specs.AccessFlags.{has_flag, static_flag}
 use Rattle.jo_prog.specs.declared.program.Program.{Program}
 use Rattle.jo_prog.specs.declared.program.Method.{Method}
+use Rattle.jo_prog.specs.FileClasses.{is_of_files}
 use Rattle.jo_prog.specs.Program.{method_at}
 use Rattle.jo_prog.specs.Spelling.{spelled_in}
 use Rattle.jo_prog.specs.PlainCode.{is_entry_desc}
 use Rattle.jo_policy.specs.declared.spellings.MethodIndex.{MethodIndex}
 
--- the method stands in a class of the files: their classes are those from a first one on
-abbrev pub is_of_files : ℕ → Method → Bool
-is_of_files first_class method = nat_le first_class method.class
-
-abbrev pub is_spelled : ℕ → Program → List ℕ → Method → Bool
-is_spelled first_class program text method =
-    is_of_files first_class method && bytes_eq text (spelled_in program (Some method))
+abbrev pub is_spelled : Program → List ℕ → Method → Bool
+is_spelled program text method =
+    is_of_files program method && bytes_eq text (spelled_in program (Some method))
 
 -- the first of these methods that a text spells, where the methods have numbers from a first one on
-abbrev pub named_from : ℕ → Program → List ℕ → ℕ → List Method → Option ℕ
-named_from first_class program text n [] = None
-named_from first_class program text n (method ∷ methods) =
-    if is_spelled first_class program text method then Some n else named_from first_class program text (suc n) methods
+abbrev pub named_from : Program → List ℕ → ℕ → List Method → Option ℕ
+named_from program text n [] = None
+named_from program text n (method ∷ methods) =
+    if is_spelled program text method then Some n else named_from program text (suc n) methods
 
 -- the method of the files that a text spells: of two with one spelling the first
-abbrev pub method_named : ℕ → Program → List ℕ → Option ℕ
-method_named first_class program text = named_from first_class program text 0 program.methods
+abbrev pub method_named : Program → List ℕ → Option ℕ
+method_named program text = named_from program text 0 program.methods
 
 -- an entry is a static method with code that takes nothing, or the texts of the command line
 abbrev pub is_entry : Method → Bool
@@ -37,9 +34,9 @@ entry_with m None = None
 entry_with m (Some method) = if is_entry method then Some m else None
 
 -- the entry that a text spells
-abbrev pub entry_named : ℕ → Program → List ℕ → Option ℕ
-entry_named first_class program text =
-    option_and_then (λ m. entry_with m (method_at program m)) (method_named first_class program text)
+abbrev pub entry_named : Program → List ℕ → Option ℕ
+entry_named program text =
+    option_and_then (λ m. entry_with m (method_at program m)) (method_named program text)
 
 -- ---- the index in memory
 
@@ -58,10 +55,10 @@ abbrev pub with_entry : List (List ℕ × ℕ) → List ℕ → ℕ → List (Li
 with_entry entries text n = if is_some (entry_of entries text) then entries else (entries ++ (text, n) ∷ [])
 
 -- a method's spelling more, if the method is of the files
-abbrev pub with_method : ℕ → Program → List (List ℕ × ℕ) → Method → ℕ → List (List ℕ × ℕ)
-with_method first_class program entries method n =
-    if is_of_files first_class method then with_entry entries (spelled_in program (Some method)) n else entries
+abbrev pub with_method : Program → List (List ℕ × ℕ) → Method → ℕ → List (List ℕ × ℕ)
+with_method program entries method n =
+    if is_of_files program method then with_entry entries (spelled_in program (Some method)) n else entries
 
 -- the index finds exactly the methods of the files
-pub record IsIndexOf (first_class : ℕ) (program : Program) (index : MethodIndex) : Type 0 where
-  pub finds : (text : List ℕ) → entry_of (entries_in index) text ≡ method_named first_class program text
+pub record IsIndexOf (program : Program) (index : MethodIndex) : Type 0 where
+  pub finds : (text : List ℕ) → entry_of (entries_in index) text ≡ method_named program text

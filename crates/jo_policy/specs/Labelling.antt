@@ -1,13 +1,14 @@
 -- The labels of a program's methods (this project's own). Each thing that may be wrong is a test of one
 -- label or method, and the first in order for which it holds is the fault: labels in the order of the
 -- tables, in a table in the order of keys.
-use Rattle.std.specs.Prelude.{ℕ, suc, Bool, true, false, not, ◌&&◌, ◌==◌, nat_le, if◌then◌else◌, List, [], ◌∷◌, length, map, Option, Some, None, is_none, option_map, option_and_then, Result, Ok, Err, find, slice_get}
+use Rattle.std.specs.Prelude.{ℕ, suc, Bool, true, false, not, ◌&&◌, ◌==◌, if◌then◌else◌, List, [], ◌∷◌, length, map, Option, Some, None, is_none, option_map, option_and_then, Result, Ok, Err, find, slice_get}
 use Rattle.std.specs.List.{list_any}
 use Rattle.jo_insn.specs.AccessFlags.{has_flag, native_flag}
 use Rattle.jo_prog.specs.declared.labels.Label.{Label}
 use Rattle.jo_prog.specs.declared.labels.Label.TheVariants.{Source, Sink, Release}
 use Rattle.jo_prog.specs.declared.program.Program.{Program}
 use Rattle.jo_prog.specs.declared.program.Method.{Method}
+use Rattle.jo_prog.specs.FileClasses.{is_of_files}
 use Rattle.jo_prog.specs.Labels.{label_among}
 use Rattle.jo_prog.specs.Numbers.{count_from}
 use Rattle.jo_prog.specs.Program.{method_at}
@@ -16,17 +17,17 @@ use Rattle.policy_tree.specs.Outcomes.{◌>>=◌, or_fault, refused}
 use Rattle.policy_tree.specs.PolicyTree.{Read}
 use Rattle.jo_policy.specs.declared.numbering.NumberedLabel.{NumberedLabel}
 use Rattle.jo_policy.specs.PolicyFile.{fits_label, with_label}
-use Rattle.jo_policy.specs.FileMethods.{is_of_files, method_named}
+use Rattle.jo_policy.specs.FileMethods.{method_named}
 
 abbrev pub Item : Type 0
 Item = ℕ × Label
 
 -- the methods that the labels spell, each with its label; a spelling that no method of the files has is a fault
-abbrev pub placed_by : ℕ → Program → List NumberedLabel → Read (List Item)
-placed_by first_class program [] = Ok []
-placed_by first_class program (label ∷ labels) = do
-  method ← or_fault (MissingMethod label.method) (method_named first_class program label.method)
-  more ← placed_by first_class program labels
+abbrev pub placed_by : Program → List NumberedLabel → Read (List Item)
+placed_by program [] = Ok []
+placed_by program (label ∷ labels) = do
+  method ← or_fault (MissingMethod label.method) (method_named program label.method)
+  more ← placed_by program labels
   Ok ((method, label.label) ∷ more)
 
 -- the first method that stands in a later table, too: in one table no key stands twice
@@ -50,19 +51,19 @@ abbrev pub first_misshapen : Program → List Item → Option ℕ
 first_misshapen program placed = method_of (find (is_misshapen program) placed)
 
 -- a native method of the files without a label
-abbrev pub is_unlabelled : ℕ → Method → Option Label → Bool
-is_unlabelled first_class method label =
-    is_of_files first_class method && (has_flag native_flag method.flags && is_none label)
+abbrev pub is_unlabelled : Program → Method → Option Label → Bool
+is_unlabelled program method label =
+    is_of_files program method && (has_flag native_flag method.flags && is_none label)
 
 -- the first of these methods that is one, where the methods have numbers from a first one on
-abbrev pub unlabelled_from : ℕ → (ℕ → Option Label) → ℕ → List Method → Option ℕ
-unlabelled_from first_class label n [] = None
-unlabelled_from first_class label n (method ∷ methods) =
-    if is_unlabelled first_class method (label n) then Some n else unlabelled_from first_class label (suc n) methods
+abbrev pub unlabelled_from : Program → (ℕ → Option Label) → ℕ → List Method → Option ℕ
+unlabelled_from program label n [] = None
+unlabelled_from program label n (method ∷ methods) =
+    if is_unlabelled program method (label n) then Some n else unlabelled_from program label (suc n) methods
 
-abbrev pub first_unlabelled : ℕ → Program → List Item → Option ℕ
-first_unlabelled first_class program placed =
-    unlabelled_from first_class (label_among placed) 0 program.methods
+abbrev pub first_unlabelled : Program → List Item → Option ℕ
+first_unlabelled program placed =
+    unlabelled_from program (label_among placed) 0 program.methods
 
 -- a release whose `to` doesn't flow to its `from`
 abbrev pub is_upward : (ℕ → ℕ → Bool) → Label → Bool
@@ -86,11 +87,11 @@ ordered_from first [] = []
 ordered_from first (label ∷ labels) = with_label first label (ordered_from (suc first) labels)
 
 -- the labelled methods in order
-abbrev pub labelled_of : ℕ → (ℕ → ℕ → Bool) → Program → List NumberedLabel → Read (List Item)
-labelled_of first_class flows program labels = do
-  placed ← placed_by first_class program labels
+abbrev pub labelled_of : (ℕ → ℕ → Bool) → Program → List NumberedLabel → Read (List Item)
+labelled_of flows program labels = do
+  placed ← placed_by program labels
   nothing ← refused TwiceLabelled (first_twice placed)
   nothing ← refused WrongShape (first_misshapen program placed)
-  nothing ← refused UnlabelledNative (first_unlabelled first_class program placed)
+  nothing ← refused UnlabelledNative (first_unlabelled program placed)
   nothing ← refused ReleaseUpward (first_upward flows placed)
   Ok (ordered_from 0 (table_of (length program.methods) placed))

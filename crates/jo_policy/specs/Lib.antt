@@ -4,5 +4,4 @@ pub mod FileMethods
 pub mod Labelling
 pub mod Policies
 pub mod RunFiles
-pub mod WellLabelled
 pub mod LabelTables

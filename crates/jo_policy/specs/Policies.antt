@@ -1,5 +1,4 @@
--- A policy and its first fault (this project's own), of a program whose classes of the files have numbers
--- from a first one on.
+-- A policy of a program, and its first fault (this project's own).
 use Rattle.std.specs.Prelude.{◌≡◌, ℕ, ◌<◌, ◌≤◌, Bool, List, [], ◌∷◌, length, Option, Some, None, option_map, option_and_then, Result, Ok, Err, slice_get}
 use Rattle.std.specs.Str.{IsUtf8}
 use Rattle.toml.specs.Data.{Members}
@@ -55,44 +54,44 @@ labels_with written numbered entry labelled =
     }
 
 -- the labels by numbers, or what is wrong with the labelled methods, or with the entry
-abbrev pub labels_of : ℕ → Program → WrittenPolicy → NumberedPolicy → Read Labels
-labels_of first_class program written numbered = do
-  labelled ← labelled_of first_class (flows_by numbered.flows) program numbered.labels
-  entry ← or_fault Entry (entry_named first_class program written.entry)
+abbrev pub labels_of : Program → WrittenPolicy → NumberedPolicy → Read Labels
+labels_of program written numbered = do
+  labelled ← labelled_of (flows_by numbered.flows) program numbered.labels
+  entry ← or_fault Entry (entry_named program written.entry)
   Ok (labels_with written numbered entry labelled)
 
 -- ---- the policy
 
 -- What a tree says is a policy of the program, with these labels: no part has a fault. That a program with
 -- releases starts no thread is not asked.
-pub record IsPolicyBeforeThreads (first_class : ℕ) (program : Program) (tree : Members) (labels : Labels) (contexts : ContextsKey) : Type 0 where
+pub record IsPolicyBeforeThreads (program : Program) (tree : Members) (labels : Labels) (contexts : ContextsKey) : Type 0 where
   pub written : WrittenPolicy
   pub said : written_of tree ≡ Ok written
   pub named : GiveOrder written.levels []
   pub numbered : NumberedPolicy
   pub known : numbered_of written ≡ Ok numbered
   pub ordered : GiveOrder written.levels numbered.flows
-  pub labelled : labels_of first_class program written numbered ≡ Ok labels
+  pub labelled : labels_of program written numbered ≡ Ok labels
   pub by_key : contexts ≡ written.contexts
 
 -- The first fault of a tree: a key; then the names of the levels, twice or too many; then a name that is no
 -- level's; then levels that flow to each other; then the labelled methods and the entry, in the order of
 -- `labelled_of`. A release in a program that starts threads, which comes after all of these, is not looked
 -- for.
-pub data IsFaultBeforeThreads (first_class : ℕ) (program : Program) (tree : Members) (fault : PolicyFault) : Type 0 where
-  of_key : written_of tree ≡ Err fault → IsFaultBeforeThreads first_class program tree fault
+pub data IsFaultBeforeThreads (program : Program) (tree : Members) (fault : PolicyFault) : Type 0 where
+  of_key : written_of tree ≡ Err fault → IsFaultBeforeThreads program tree fault
   of_names : (written : WrittenPolicy) → written_of tree ≡ Ok written
-      → IsOrderFault written.levels [] fault → IsFaultBeforeThreads first_class program tree fault
+      → IsOrderFault written.levels [] fault → IsFaultBeforeThreads program tree fault
   of_unknown : (written : WrittenPolicy) → written_of tree ≡ Ok written → GiveOrder written.levels []
-      → numbered_of written ≡ Err fault → IsFaultBeforeThreads first_class program tree fault
+      → numbered_of written ≡ Err fault → IsFaultBeforeThreads program tree fault
   of_cycle : (written : WrittenPolicy) (numbered : NumberedPolicy) → written_of tree ≡ Ok written
       → GiveOrder written.levels [] → numbered_of written ≡ Ok numbered
-      → IsOrderFault written.levels numbered.flows fault → IsFaultBeforeThreads first_class program tree fault
+      → IsOrderFault written.levels numbered.flows fault → IsFaultBeforeThreads program tree fault
   of_labels : (written : WrittenPolicy) (numbered : NumberedPolicy) → written_of tree ≡ Ok written
       → GiveOrder written.levels [] → numbered_of written ≡ Ok numbered
       → GiveOrder written.levels numbered.flows
-      → labels_of first_class program written numbered ≡ Err fault
-      → IsFaultBeforeThreads first_class program tree fault
+      → labels_of program written numbered ≡ Err fault
+      → IsFaultBeforeThreads program tree fault
 
 -- the tree of a text in TOML
 pub record IsTree (text : List ℕ) (tree : Members) : Type 0 where
@@ -100,11 +99,11 @@ pub record IsTree (text : List ℕ) (tree : Members) : Type 0 where
   pub parsed : parse_document text ≡ Some tree
 
 -- the first fault of a text
-pub data IsTextFaultBeforeThreads (first_class : ℕ) (program : Program) (text : List ℕ) (fault : PolicyFault) : Type 0 where
+pub data IsTextFaultBeforeThreads (program : Program) (text : List ℕ) (fault : PolicyFault) : Type 0 where
   no_tree : fault ≡ NotToml → ((tree : Members) → IsTree text tree → ⊥)
-      → IsTextFaultBeforeThreads first_class program text fault
-  of_tree : (tree : Members) → IsTree text tree → IsFaultBeforeThreads first_class program tree fault
-      → IsTextFaultBeforeThreads first_class program text fault
+      → IsTextFaultBeforeThreads program text fault
+  of_tree : (tree : Members) → IsTree text tree → IsFaultBeforeThreads program tree fault
+      → IsTextFaultBeforeThreads program text fault
 
 -- ---- answers
 

@@ -13,6 +13,7 @@ use Rattle.jo_prog.specs.declared.program.Program.{Program}
 use Rattle.jo_prog.specs.declared.program.Method.{Method}
 use Rattle.jo_prog.specs.Numbers.{count_from}
 use Rattle.jo_prog.specs.Program.{method_at}
+use Rattle.jo_prog.specs.FileClasses.{is_of_files}
 use Rattle.jo_prog.specs.Labels.{label_among}
 use Rattle.jo_prog.specs.PlainCode.{desc_for, is_entry_desc}
 use Rattle.jo_prog.specs.Spelling.{spelled_in}
@@ -159,11 +160,16 @@ labelled_of spellings levels (Some sources) (Some sinks) =
     (labelled_from spellings levels sources sinks 0 spellings)
 labelled_of spellings levels _ _ = None
 
+-- each of these methods stands in a class of the files
+abbrev pub are_of_files : Program → List Method → Bool
+are_of_files program [] = true
+are_of_files program (m ∷ ms) = is_of_files program m && are_of_files program ms
+
 -- ---- the policy
 
 abbrev pub labels_with : Program → List (List ℕ) → List (ℕ × ℕ) → ℕ → List (ℕ × Label) → Option Labels
 labels_with program levels pairs entry labelled =
-    where_holds (labels_fit_from labelled 0 program.methods)
+    where_holds (are_of_files program program.methods && labels_fit_from labelled 0 program.methods)
     (record { levels = levels; flows = pairs; observers = count_from 0 (length levels); entry = entry; labelled = labelled })
 
 -- the labels that the parts of a policy give to a program, where no part has a fault

@@ -33,20 +33,20 @@ is_source (Some (label.Source level)) = true
 is_source _ = false
 
 -- the source that a text spells
-unfoldable pub source_named : ℕ → Program → Labels → List ℕ → Option ℕ
-source_named first_class program labels text =
-    option_and_then (λ m. if is_source (label_of labels m) then Some m else None) (method_named first_class program text)
+unfoldable pub source_named : Program → Labels → List ℕ → Option ℕ
+source_named program labels text =
+    option_and_then (λ m. if is_source (label_of labels m) then Some m else None) (method_named program text)
 
-unfoldable pub placed_input : ℕ → Program → Labels → WrittenInput → RunRead PlacedInput
-placed_input first_class program labels input = do
-  source ← or_source (source_named first_class program labels input.source)
+unfoldable pub placed_input : Program → Labels → WrittenInput → RunRead PlacedInput
+placed_input program labels input = do
+  source ← or_source (source_named program labels input.source)
   Ok (record { source = source; values = input.values })
 
-abbrev pub placed_inputs : ℕ → Program → Labels → List WrittenInput → RunRead (List PlacedInput)
-placed_inputs first_class program labels [] = Ok []
-placed_inputs first_class program labels (input ∷ inputs) = do
-  placed ← placed_input first_class program labels input
-  more ← placed_inputs first_class program labels inputs
+abbrev pub placed_inputs : Program → Labels → List WrittenInput → RunRead (List PlacedInput)
+placed_inputs program labels [] = Ok []
+placed_inputs program labels (input ∷ inputs) = do
+  placed ← placed_input program labels input
+  more ← placed_inputs program labels inputs
   Ok (placed ∷ more)
 
 -- numbers that are all in their range
@@ -64,26 +64,26 @@ inputs_within (input ∷ inputs) = do
   more ← inputs_within inputs
   Ok (record { source = input.source; values = values } ∷ more)
 
-abbrev pub plan_by : ℕ → Program → Labels → WrittenRun → RunRead RunPlan
-plan_by first_class program labels written = do
-  placed ← placed_inputs first_class program labels written.inputs
+abbrev pub plan_by : Program → Labels → WrittenRun → RunRead RunPlan
+plan_by program labels written = do
+  placed ← placed_inputs program labels written.inputs
   steps ← or_range written.steps
   schedule ← within written.schedule
   inputs ← inputs_within placed
   Ok (record { steps = steps; schedule = schedule; inputs = inputs })
 
 -- the plan that a tree gives for a program and its labels
-abbrev pub plan_of : ℕ → Program → Labels → Members → RunRead RunPlan
-plan_of first_class program labels tree = do
+abbrev pub plan_of : Program → Labels → Members → RunRead RunPlan
+plan_of program labels tree = do
   written ← written_run tree
-  plan_by first_class program labels written
+  plan_by program labels written
 
 -- the first fault of a text
-pub data IsRunFault (first_class : ℕ) (program : Program) (labels : Labels) (text : List ℕ) (fault : RunFileFault) : Type 0 where
+pub data IsRunFault (program : Program) (labels : Labels) (text : List ℕ) (fault : RunFileFault) : Type 0 where
   no_tree : fault ≡ NotToml → ((tree : Members) → IsTree text tree → ⊥)
-      → IsRunFault first_class program labels text fault
-  of_tree : (tree : Members) → IsTree text tree → plan_of first_class program labels tree ≡ Err fault
-      → IsRunFault first_class program labels text fault
+      → IsRunFault program labels text fault
+  of_tree : (tree : Members) → IsTree text tree → plan_of program labels tree ≡ Err fault
+      → IsRunFault program labels text fault
 
 -- want of memory says nothing
 abbrev pub OrNoMemory : (RunFileFault → Type 0) → RunFileFault → Type 0

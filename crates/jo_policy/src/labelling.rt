@@ -11,10 +11,11 @@ ghost use Rattle.jo_policy.specs.LabelTables.{IsByMethod};
 
 use crate::numbering::NumberedLabel;
 use crate::reader::{copy_name, fits_label};
-use crate::spellings::{MethodIndex, find_method, is_of_files};
+use crate::spellings::{MethodIndex, find_method};
 use jo_ids::{Id, List, Memory, MethodId};
 use jo_insn::{ACC_NATIVE, has_flag};
 use jo_order::{Levels, Order};
+use jo_prog::files::is_of_files;
 use jo_prog::labels::Label;
 use jo_prog::lists::add;
 use jo_prog::program::{Method, Program, method_at};
@@ -31,9 +32,9 @@ fn method_of(
     index: &MethodIndex,
     name: &Name,
 ) -> Result<u32, PolicyFault>
-    requires { IsIndexOf index.now.first_class program.now index.now }
+    requires { IsIndexOf program.now index.now }
     ensures { Gives (λ x. x) result (or_fault (PolicyFault.MissingMethod name.now)
-        (method_named index.now.first_class program.now name.now)) }
+        (method_named program.now name.now)) }
 {
     match find_method(program, index, name.as_slice()) {
         Some((number, _)) => Ok(number),
@@ -50,8 +51,8 @@ fn place_labels(
     index: &MethodIndex,
     labels: &[NumberedLabel],
 ) -> Result<List<(MethodId, Label)>, PolicyFault>
-    requires { IsIndexOf index.now.first_class program.now index.now }
-    ensures { Gives (λ x. x) result (placed_by index.now.first_class program.now labels.now) }
+    requires { IsIndexOf program.now index.now }
+    ensures { Gives (λ x. x) result (placed_by program.now labels.now) }
 {
     let mut placed = List::new(alloc);
     for label in labels {
@@ -193,37 +194,33 @@ fn no_misshapen(program: &Program, placed: &[(MethodId, Label)]) -> Result<(), P
     Ok(())
 }
 
-fn is_unlabelled(first_class: u32, method: &Method, label: Option<Label>) -> bool
-    ensures { result ≡ unlabelled first_class method.now label }
+fn is_unlabelled(program: &Program, method: &Method, label: Option<Label>) -> bool
+    ensures { result ≡ unlabelled program.now method.now label }
 {
-    is_of_files(first_class, method) && has_flag(ACC_NATIVE, method.flags) && label.is_none()
+    is_of_files(program, method) && has_flag(ACC_NATIVE, method.flags) && label.is_none()
 }
 
-fn none_unlabelled(
-    first_class: u32,
-    program: &Program,
-    labels: &[Option<Label>],
-) -> Result<(), PolicyFault>
+fn none_unlabelled(program: &Program, labels: &[Option<Label>]) -> Result<(), PolicyFault>
     requires { length program.now.methods < 2 ^ 32 }
-    ensures { Gives (λ x. x) result (refused PolicyFault.UnlabelledNative (unlabelled_from first_class
+    ensures { Gives (λ x. x) result (refused PolicyFault.UnlabelledNative (unlabelled_from program.now
         (table_at labels.now) 0 program.now.methods)) }
 {
     for (i, method) in program.methods.as_slice().iter().enumerate() {
         let label = label_at(labels, i as u32);
-        if is_unlabelled(first_class, method, label) {
+        if is_unlabelled(program, method, label) {
             return Err(PolicyFault::UnlabelledNative(Id::of(i as u32)));
         }
     }
     Ok(())
 }
 
-fn no_unlabelled(first_class: u32, program: &Program, table: &ByMethod) -> Result<(), PolicyFault>
+fn no_unlabelled(program: &Program, table: &ByMethod) -> Result<(), PolicyFault>
     requires few { length program.now.methods < 2 ^ 32 }
     requires table { IsByMethod (length program.now.methods) table.now }
     ensures { Gives (λ x. x) result (refused PolicyFault.UnlabelledNative
-        (first_unlabelled first_class program.now table.now.placed)) }
+        (first_unlabelled program.now table.now.placed)) }
 {
-    none_unlabelled(first_class, program, table.labels.as_slice())
+    none_unlabelled(program, table.labels.as_slice())
 }
 
 fn is_upward(order: &Levels, label: Label) -> bool
@@ -263,8 +260,8 @@ pub fn label_methods(
     labels: &[NumberedLabel],
 ) -> Result<Labelled, PolicyFault>
     requires few { length program.now.methods < 2 ^ 32 }
-    requires index { IsIndexOf index.now.first_class program.now index.now }
-    ensures labelled { Gives (λ l. l.labelled) result (labelled_of index.now.first_class
+    requires index { IsIndexOf program.now index.now }
+    ensures labelled { Gives (λ l. l.labelled) result (labelled_of
         (flows_in order.now) program.now labels.now) }
     ensures table { IfOk result (λ l. l.labelled ≡ ordered_from 0 l.by_method.items) }
 {
@@ -273,7 +270,7 @@ pub fn label_methods(
     let table = by_method(alloc, count, placed)?;
     no_twice(count, &table)?;
     no_misshapen(program, table.placed.as_slice())?;
-    no_unlabelled(index.first_class, program, &table)?;
+    no_unlabelled(program, &table)?;
     no_upward(order, table.placed.as_slice())?;
     let labelled = list_labels(alloc, table.labels.as_slice())?;
     Ok(Labelled {

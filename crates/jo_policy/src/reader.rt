@@ -9,10 +9,11 @@ ghost use Rattle.jo_prog.specs.Labels.{label_among as first_label_of};
 ghost use Rattle.jo_prog.specs.Numbers.{count_from};
 ghost use Rattle.jo_prog.specs.PlainCode.{desc_for as shape_of, IsWellLabelled};
 ghost use Rattle.jo_prog.specs.Program.{method_at};
-ghost use Rattle.jo_policy.specs.PolicyFile.{known_keys, keys_are_known as all_known, texts_in, are_few_levels as are_few, levels_of, place_from, level_named as named_level, pair_of, pairs_of, flows_of, spellings_of, is_entry as can_enter, entry_with, entry_of, table_of, labels_are_good as all_good, are_apart as all_apart, label_in as label_by, label_for as label_given, labelled_from, fits_label as fits_it, labels_fit_from, labelled_of, labels_with, policy_of};
+ghost use Rattle.jo_policy.specs.PolicyFile.{known_keys, keys_are_known as all_known, texts_in, are_few_levels as are_few, levels_of, place_from, level_named as named_level, pair_of, pairs_of, flows_of, spellings_of, is_entry as can_enter, entry_with, entry_of, table_of, labels_are_good as all_good, are_apart as all_apart, label_in as label_by, label_for as label_given, labelled_from, fits_label as fits_it, labels_fit_from, are_of_files as all_of_files, labelled_of, labels_with, policy_of};
 
 use jo_ids::{Id, LevelId, List, Memory, MethodId};
 use jo_insn::{ACC_NATIVE, ACC_STATIC, has_flag};
+use jo_prog::files::is_of_files;
 use jo_prog::labels::{Label, Labels};
 use jo_prog::lists::add;
 use jo_prog::program::{Method, Program};
@@ -402,6 +403,18 @@ fn labels_fit(methods: &[Method], labelled: &[(MethodId, Label)]) -> bool
     true
 }
 
+/// Whether each method of a program stands in a class of the files.
+fn are_of_files(program: &Program) -> bool
+    ensures { result ≡ all_of_files program.now program.now.methods }
+{
+    for method in program.methods.as_slice() {
+        if !is_of_files(program, method) {
+            return false;
+        }
+    }
+    true
+}
+
 // ---- the policy
 
 pub(crate) fn count_levels(alloc: Global, count: u32) -> Result<List<LevelId>, Memory>
@@ -426,6 +439,9 @@ fn label_program(
     requires few_levels { length levels < 2 ^ 32 }
     ensures { IfOk result (λ found. found ≡ labels_with program.now levels flows entry labelled) }
 {
+    if !are_of_files(program) {
+        return Ok(None);
+    }
     if !labels_fit(program.methods.as_slice(), labelled.as_slice()) {
         return Ok(None);
     }

@@ -47,9 +47,9 @@ fn source_of(
     index: &MethodIndex,
     text: &[u8],
 ) -> Result<u32, RunFileFault>
-    requires { IsIndexOf index.now.first_class program.now index.now }
+    requires { IsIndexOf program.now index.now }
     ensures { RunGives (λ x. x) result (or_source
-        (source_named index.now.first_class program.now policy.now.labels text.now)) }
+        (source_named program.now policy.now.labels text.now)) }
 {
     match find_method(program, index, text) {
         Some((number, _)) => {
@@ -81,9 +81,9 @@ fn place_input(
     index: &MethodIndex,
     input: &WrittenInput,
 ) -> Result<PlacedInput, RunFileFault>
-    requires { IsIndexOf index.now.first_class program.now index.now }
+    requires { IsIndexOf program.now index.now }
     ensures { RunGives (λ x. x) result
-        (placed_input index.now.first_class program.now policy.now.labels input.now) }
+        (placed_input program.now policy.now.labels input.now) }
 {
     let source = source_of(program, policy, index, input.source.as_slice())?;
     let values = copy_values(alloc, input.values.as_slice())?;
@@ -100,9 +100,9 @@ fn place_inputs(
     index: &MethodIndex,
     inputs: &[WrittenInput],
 ) -> Result<List<PlacedInput>, RunFileFault>
-    requires { IsIndexOf index.now.first_class program.now index.now }
+    requires { IsIndexOf program.now index.now }
     ensures { RunGives (λ x. x) result
-        (placed_inputs index.now.first_class program.now policy.now.labels inputs.now) }
+        (placed_inputs program.now policy.now.labels inputs.now) }
 {
     let mut placed = List::new(alloc);
     for input in inputs {
@@ -177,9 +177,9 @@ fn plan_with(
     index: &MethodIndex,
     written: &WrittenRun,
 ) -> Result<RunPlan, RunFileFault>
-    requires { IsIndexOf index.now.first_class program.now index.now }
+    requires { IsIndexOf program.now index.now }
     ensures { RunGives (λ x. x) result
-        (plan_by index.now.first_class program.now policy.now.labels written.now) }
+        (plan_by program.now policy.now.labels written.now) }
 {
     let placed = place_inputs(alloc, program, policy, index, written.inputs.as_slice())?;
     let steps = natural_within(written.steps)?;
@@ -197,14 +197,13 @@ fn from_tree(
     tree: &Table,
     program: &Program,
     policy: &Policy,
-    first_class: u32,
 ) -> Result<RunPlan, RunFileFault>
     requires { length program.now.methods < 2 ^ 32 }
-    ensures { RunGives (λ x. x) result (plan_of first_class program.now policy.now.labels
+    ensures { RunGives (λ x. x) result (plan_of program.now policy.now.labels
         (table_view tree.now)) }
 {
     let written = read_written_run(alloc, tree)?;
-    let index = index_methods(alloc, first_class, program)?;
+    let index = index_methods(alloc, program)?;
     plan_with(alloc, program, policy, &index, &written)
 }
 
@@ -214,16 +213,15 @@ pub fn read_run(
     text: &[u8],
     program: &Program,
     policy: &Policy,
-    first_class: u32,
 ) -> Result<RunPlan, RunFileFault>
     requires { length program.now.methods < 2 ^ 32 }
     ensures plan { IfOk result (λ plan. (tree : Members) × IsTree text.now tree ×
-        (plan_of first_class program.now policy.now.labels tree ≡ Ok plan)) }
+        (plan_of program.now policy.now.labels tree ≡ Ok plan)) }
     ensures fault { IfErr result (OrNoMemory
-        (IsRunFault first_class program.now policy.now.labels text.now)) }
+        (IsRunFault program.now policy.now.labels text.now)) }
 {
     match toml::table_from_slice(alloc, text) {
-        Ok(tree) => from_tree(alloc, &tree, program, policy, first_class),
+        Ok(tree) => from_tree(alloc, &tree, program, policy),
         Err(fault) if fault.is_memory() => Err(RunFileFault::Memory),
         Err(_) => Err(RunFileFault::NotToml),
     }

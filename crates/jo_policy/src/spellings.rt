@@ -1,26 +1,20 @@
 //! The methods of the files, by their spellings.
 ghost use Rattle.std.specs.Prelude.{◌≡◌, ◌<◌, ◌^◌, ℕ, List as Items, length, map, IfOk, OnOk, IfSome, Some, option_map};
 ghost use Rattle.jo_prog.specs.Program.{method_at as method_with};
-ghost use Rattle.jo_policy.specs.FileMethods.{is_of_files as of_files, method_named, entry_of, entries_in, with_entry, with_method, IsIndexOf, is_entry as can_be_entry, entry_named};
+ghost use Rattle.jo_policy.specs.FileMethods.{method_named, entry_of, entries_in, with_entry, with_method, IsIndexOf, is_entry as can_be_entry, entry_named};
 
 use indexmap::IndexMap;
 use jo_ids::{Id, Memory};
 use jo_insn::{ACC_STATIC, has_flag};
+use jo_prog::files::is_of_files;
 use jo_prog::program::{Method, Program, method_at};
 use jo_prog::spelling::push_spelled;
 use std::alloc::{AllocError, Global};
 
-/// The methods of classes from a first one on, by their spellings: of two with one spelling the first.
+/// The methods of the files by their spellings: of two with one spelling the first.
 #[derive(Drop)]
 pub struct MethodIndex {
-    pub first_class: u32,
     places: IndexMap<Vec<u8>, u32>,
-}
-
-pub fn is_of_files(first_class: u32, method: &Method) -> bool
-    ensures { result ≡ of_files first_class method.now }
-{
-    first_class <= method.class.number()
 }
 
 /// The place at a spelling.
@@ -33,8 +27,7 @@ fn place_at(index: &MethodIndex, spelling: &[u8]) -> Option<u32>
 
 /// Adds a spelling, unless it is there.
 fn add_spelling(index: &mut MethodIndex, spelling: Vec<u8>, place: u32) -> Result<(), Memory>
-    ensures class { index.new.first_class ≡ index.old.first_class }
-    ensures added { OnOk result (entries_in index.new ≡ with_entry
+    ensures { OnOk result (entries_in index.new ≡ with_entry
         (entries_in index.old) spelling.items place) }
 {
     if place_at(index, spelling.as_slice()).is_some() {
@@ -54,11 +47,10 @@ fn add_method(
     method: &Method,
     place: u32,
 ) -> Result<(), Memory>
-    ensures class { index.new.first_class ≡ index.old.first_class }
-    ensures added { OnOk result (entries_in index.new ≡ with_method index.old.first_class program.now
+    ensures { OnOk result (entries_in index.new ≡ with_method program.now
         (entries_in index.old) method.now place) }
 {
-    if !is_of_files(index.first_class, method) {
+    if !is_of_files(program, method) {
         return Ok(());
     }
     let mut spelling = Vec::new(alloc);
@@ -67,17 +59,11 @@ fn add_method(
 }
 
 /// The index of a program's methods.
-pub fn index_methods(
-    alloc: Global,
-    first_class: u32,
-    program: &Program,
-) -> Result<MethodIndex, Memory>
+pub fn index_methods(alloc: Global, program: &Program) -> Result<MethodIndex, Memory>
     requires { length program.now.methods < 2 ^ 32 }
-    ensures class { IfOk result (λ index. index.first_class ≡ first_class) }
-    ensures index { IfOk result (λ index. IsIndexOf index.first_class program.now index) }
+    ensures { IfOk result (λ index. IsIndexOf program.now index) }
 {
     let mut index = MethodIndex {
-        first_class,
         places: IndexMap::new(alloc),
     };
     for (i, method) in program.methods.as_slice().iter().enumerate() {
@@ -92,9 +78,9 @@ pub fn find_method<'p>(
     index: &MethodIndex,
     text: &[u8],
 ) -> Option<(u32, &'p Method)>
-    requires { IsIndexOf index.now.first_class program.now index.now }
+    requires { IsIndexOf program.now index.now }
     ensures number { option_map
-        (λ found. found.0) result ≡ method_named index.now.first_class program.now text.now }
+        (λ found. found.0) result ≡ method_named program.now text.now }
     ensures method { IfSome result (λ found. method_with program.now found.0 ≡ Some found.1.now) }
 {
     let number = place_at(index, text)?;
@@ -113,8 +99,8 @@ fn is_entry(method: &Method) -> bool
 
 /// The entry that a text spells.
 pub fn find_entry(program: &Program, index: &MethodIndex, text: &[u8]) -> Option<u32>
-    requires { IsIndexOf index.now.first_class program.now index.now }
-    ensures { result ≡ entry_named index.now.first_class program.now text.now }
+    requires { IsIndexOf program.now index.now }
+    ensures { result ≡ entry_named program.now text.now }
 {
     let (number, method) = find_method(program, index, text)?;
     if is_entry(method) { Some(number) } else { None }

@@ -136,7 +136,7 @@ fn is_told(alloc: Global, head: &str, tables: &str, code: u32, text: &str) -> Re
         return Err(Memory);
     }
     Ok(
-        match whole::read_policy(alloc, policy.as_slice(), &program, 0) {
+        match whole::read_policy(alloc, policy.as_slice(), &program) {
             Ok(_) => code == 0,
             Err(fault) => code_of(&fault) == code && text_of(&fault) == text.as_bytes(),
         },
@@ -268,11 +268,11 @@ fn planned(alloc: Global, text: &str) -> Result<(u32, usize, usize), Memory> {
     if program.methods.as_slice().len() > 100 {
         return Err(Memory);
     }
-    let policy = match whole::read_policy(alloc, policy_text.as_slice(), &program, 0) {
+    let policy = match whole::read_policy(alloc, policy_text.as_slice(), &program) {
         Ok(policy) => policy,
         Err(_) => return Err(Memory),
     };
-    match read_run(alloc, text.as_bytes(), &program, &policy, 0) {
+    match read_run(alloc, text.as_bytes(), &program, &policy) {
         Ok(plan) => Ok((
             0,
             plan.inputs.as_slice().len(),

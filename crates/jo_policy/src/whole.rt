@@ -65,9 +65,9 @@ impl Policy {
 
 /// The entry that a text spells.
 fn entry_of(program: &Program, index: &MethodIndex, text: &[u8]) -> Result<u32, PolicyFault>
-    requires { IsIndexOf index.now.first_class program.now index.now }
+    requires { IsIndexOf program.now index.now }
     ensures { Gives (λ x. x) result (or_fault PolicyFault.Entry
-        (entry_named index.now.first_class program.now text.now)) }
+        (entry_named program.now text.now)) }
 {
     match find_entry(program, index, text) {
         Some(entry) => Ok(entry),
@@ -79,7 +79,6 @@ fn entry_of(program: &Program, index: &MethodIndex, text: &[u8]) -> Result<u32, 
 fn label_program(
     alloc: Global,
     program: &Program,
-    first_class: u32,
     order: Levels,
     written: WrittenPolicy,
     numbered: NumberedPolicy,
@@ -87,10 +86,10 @@ fn label_program(
     requires few { length program.now.methods < 2 ^ 32 }
     requires flowing { FlowsBy numbered.flows order }
     ensures labels { Gives (λ policy. policy.labels) result
-        (labels_of first_class program.now written numbered) }
+        (labels_of program.now written numbered) }
     ensures contexts { IfOk result (λ policy. policy.contexts ≡ written.contexts) }
 {
-    let index = index_methods(alloc, first_class, program)?;
+    let index = index_methods(alloc, program)?;
     let labelled = label_methods(alloc, program, &index, &order, numbered.labels.as_slice())?;
     let entry = entry_of(program, &index, written.entry.as_slice())?;
     Ok(Policy {
@@ -107,40 +106,29 @@ fn label_program(
     })
 }
 
-fn from_tree(
-    alloc: Global,
-    tree: &Table,
-    program: &Program,
-    first_class: u32,
-) -> Result<Policy, PolicyFault>
+fn from_tree(alloc: Global, tree: &Table, program: &Program) -> Result<Policy, PolicyFault>
     requires { length program.now.methods < 2 ^ 32 }
-    ensures { Answers (λ policy. IsPolicyBeforeThreads first_class program.now
+    ensures { Answers (λ policy. IsPolicyBeforeThreads program.now
         (table_view tree.now) policy.labels policy.contexts)
-        (IsFaultBeforeThreads first_class program.now (table_view tree.now)) result }
+        (IsFaultBeforeThreads program.now (table_view tree.now)) result }
 {
     let written = read_written(alloc, tree)?;
     let no_pairs = List::new(alloc);
     put_in_order(alloc, written.levels.as_slice(), no_pairs.as_slice())?;
     let numbered = number(alloc, &written)?;
     let order = put_in_order(alloc, written.levels.as_slice(), numbered.flows.as_slice())?;
-    label_program(alloc, program, first_class, order, written, numbered)
+    label_program(alloc, program, order, written, numbered)
 }
 
-/// The policy that a text gives to a program whose classes of the files have numbers from `first_class` on, or the first
-/// fault of the text. That a program with releases starts no thread isn't asked.
-pub fn read_policy(
-    alloc: Global,
-    text: &[u8],
-    program: &Program,
-    first_class: u32,
-) -> Result<Policy, PolicyFault>
+/// The policy that a text gives to a program, or the first fault of the text. That a program with releases starts no thread isn't asked.
+pub fn read_policy(alloc: Global, text: &[u8], program: &Program) -> Result<Policy, PolicyFault>
     requires { length program.now.methods < 2 ^ 32 }
     ensures policy { IfOk result (λ policy.
-        (tree : Members) × IsTree text.now tree × IsPolicyBeforeThreads first_class program.now tree policy.labels policy.contexts) }
-    ensures fault { IfErr result (OrMemory (IsTextFaultBeforeThreads first_class program.now text.now)) }
+        (tree : Members) × IsTree text.now tree × IsPolicyBeforeThreads program.now tree policy.labels policy.contexts) }
+    ensures fault { IfErr result (OrMemory (IsTextFaultBeforeThreads program.now text.now)) }
 {
     match toml::table_from_slice(alloc, text) {
-        Ok(tree) => from_tree(alloc, &tree, program, first_class),
+        Ok(tree) => from_tree(alloc, &tree, program),
         Err(fault) if fault.is_memory() => Err(PolicyFault::Memory),
         Err(_) => Err(PolicyFault::NotToml),
     }

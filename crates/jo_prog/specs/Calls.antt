@@ -74,3 +74,7 @@ takes program op current m receiver =
     if op == 184 then taken_from program (Some m)
     else if op == 183 then taken_from program (special program current m)
     else taken_from program (select program receiver m)
+
+-- the method `run` that a class selects for a thread that is started
+abbrev pub run_of : Program → ℕ → Taken
+run_of program c = taken_from program (search_from program c (codes "run") (codes "()V"))

@@ -18,6 +18,8 @@ pub mod Values
 pub mod Constants
 pub mod Machine
 pub mod Runs
+pub mod FileClasses
+pub mod Starts
 pub mod PlainCode
 pub mod IntShapes
 pub mod Worked

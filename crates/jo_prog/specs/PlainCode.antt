@@ -1,6 +1,6 @@
 -- Labels that fit a program, and the first form of programs: one class, whose only code is the entry's, in one straight line.
-use Rattle.std.specs.Prelude.{◌≡◌, ℕ, ◌<◌, Bool, true, false, ◌||◌, List, length, map, Option, Some, None, IsSome, codes}
-use Rattle.std.specs.List.{AllByRecursion}
+use Rattle.std.specs.Prelude.{◌≡◌, ℕ, ◌<◌, ◌≤◌, Bool, true, false, ◌||◌, List, length, map, Option, Some, None, IsSome, slice_get, codes}
+use Rattle.std.specs.List.{AllByRecursion, list_any}
 use Rattle.std.specs.Str.{bytes_eq}
 use Rattle.std.specs.List.Sorted.{IsStrictlyIncreasing}
 use Rattle.jo_insn.specs.AccessFlags.{has_flag, static_flag, native_flag}
@@ -12,7 +12,9 @@ use Rattle.jo_prog.specs.declared.labels.Labels.{Labels}
 use Rattle.jo_prog.specs.declared.program.Program.{Program}
 use Rattle.jo_prog.specs.declared.program.Method.{Method}
 use Rattle.jo_prog.specs.declared.program.Code.{Code}
+use Rattle.jo_prog.specs.FileClasses.{is_of_files}
 use Rattle.jo_prog.specs.Labels.{label_of, flows}
+use Rattle.jo_prog.specs.Starts.{first_start}
 use Rattle.jo_prog.specs.Program.{method_at, code_at, operation_at, callee_at}
 use Rattle.jo_prog.specs.Typing.{IsTypedCode}
 
@@ -28,10 +30,11 @@ HasGoodLevels labels (Source level) = level < length labels.levels
 HasGoodLevels labels (Sink level) = level < length labels.levels
 HasGoodLevels labels (Release from to) = (from < length labels.levels) × (to < length labels.levels) × (flows labels to from ≡ true)
 
--- a labelled method is a static native of the program, of the label's shape
+-- a labelled method is a static native of the files, of the label's shape
 pub record IsLabelledNative (program : Program) (labels : Labels) (item : ℕ × Label) : Type 0 where
   pub method : Method
   pub found : method_at program item.0 ≡ Some method
+  pub files : is_of_files program method ≡ true
   pub is_static : has_flag static_flag method.flags ≡ true
   pub is_native : has_flag native_flag method.flags ≡ true
   pub no_code : method.code ≡ None
@@ -42,22 +45,35 @@ pub record IsLabelledNative (program : Program) (labels : Labels) (item : ℕ ×
 abbrev pub is_entry_desc : List ℕ → Bool
 is_entry_desc desc = bytes_eq desc (codes "()V") || bytes_eq desc (codes "([Ljava/lang/String;)V")
 
--- the entry is a static method with code
+-- the entry is a static method of the files with code
 pub record IsEntry (program : Program) (m : ℕ) : Type 0 where
   pub method : Method
   pub found : method_at program m ≡ Some method
+  pub files : is_of_files program method ≡ true
   pub is_static : has_flag static_flag method.flags ≡ true
   pub has_code : IsSome method.code
   pub shape : is_entry_desc method.desc ≡ true
 
--- labels that fit a program: all numbers are there, each native has its label, and no method has two
+abbrev pub is_release : ℕ × Label → Bool
+is_release (m, Source level) = false
+is_release (m, Sink level) = false
+is_release (m, Release from to) = true
+
+-- Labels that fit a program, which is what a policy without a fault gives: at most 64 levels of different names, of which no two flow to
+-- each other, all numbers are there, each native of the files has its label, no method has two, and where there is a release no call may
+-- start a thread.
 pub record IsWellLabelled (program : Program) (labels : Labels) : Type 0 where
+  pub distinct : (j k : ℕ) (name : List ℕ) → slice_get labels.levels j ≡ Some name → slice_get labels.levels k ≡ Some name → j ≡ k
+  pub few : length labels.levels ≤ 64
   pub pairs : AllByRecursion (λ (pair : ℕ × ℕ). (pair.0 < length labels.levels) × (pair.1 < length labels.levels)) labels.flows
+  pub no_cycle : (a b : ℕ) → flows labels a b ≡ true → flows labels b a ≡ true → a ≡ b
   pub observers : AllByRecursion (λ (l : ℕ). l < length labels.levels) labels.observers
   pub entry : IsEntry program labels.entry
   pub natives : AllByRecursion (IsLabelledNative program labels) labels.labelled
   pub in_order : IsStrictlyIncreasing (map (λ (item : ℕ × Label). item.0) labels.labelled)
-  pub each_native : (m : ℕ) (method : Method) → method_at program m ≡ Some method → has_flag native_flag method.flags ≡ true → IsSome (label_of labels m)
+  pub each_native : (m : ℕ) (method : Method) → method_at program m ≡ Some method → is_of_files program method ≡ true
+      → has_flag native_flag method.flags ≡ true → IsSome (label_of labels m)
+  pub releases : list_any is_release labels.labelled ≡ true → first_start program ≡ None
 
 -- ---- plain code
 

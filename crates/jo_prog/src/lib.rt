@@ -2,6 +2,7 @@
 #![tactic(auto)]
 
 pub mod calls;
+pub mod files;
 pub mod jvm_typing;
 pub mod labels;
 pub mod laws;

@@ -1,6 +1,6 @@
 -- `check CLASSES POLICY`: the program that the files make, what it shows of it, and what refuses the files. Programs are of the
 -- first form: of the methods of the class files the entry alone has code, one straight line, and the policy is small.
-use Rattle.std.specs.Prelude.{◌≡◌, ℕ, ◌^◌, ◌<◌, Bool, ◌&&◌, not, nat_lt, true, List, [], length, slice_get, Option, Some, None, is_some, Result, Ok, Err, codes, ⊤}
+use Rattle.std.specs.Prelude.{◌≡◌, ℕ, ◌^◌, ◌<◌, Bool, ◌&&◌, true, List, [], Option, Some, None, is_some, Result, Ok, Err, codes, ⊤}
 use Rattle.std.specs.Str.{IsUtf8}
 use Rattle.toml.specs.Data.{Members}
 use Rattle.toml.specs.Parse.{parse_document}
@@ -9,8 +9,8 @@ use Rattle.jo_prog.specs.declared.program.Program.{Program}
 use Rattle.jo_prog.specs.declared.program.Method.{Method}
 use Rattle.jo_prog.specs.declared.program.Code.{Code}
 use Rattle.jo_prog.specs.declared.labels.Labels.{Labels}
-use Rattle.jo_prog.specs.Program.{code_at}
-use Rattle.jo_prog.specs.PreludeClasses.{prelude_names}
+use Rattle.jo_prog.specs.Program.{code_at, method_at}
+use Rattle.jo_prog.specs.FileClasses.{is_of_files}
 use Rattle.jo_prog.specs.PlainCode.{IsPlainFrom, IsPlainProgram}
 use Rattle.jo_prog.specs.Typing.{IsTyped}
 use Rattle.linker.specs.Linking.{linked_classes, program_of}
@@ -56,17 +56,14 @@ pub record IsLinked (classes : List ClassFile) (program : Program) : Type 0 wher
   pub program_is : program ≡ program_of classes
   pub whole : HasNoFault (linked_classes classes)
 
--- the method is one of the class files, whose classes stand behind those of the prelude
-abbrev pub is_of_files : Method → Bool
-is_of_files method = not (nat_lt method.class (length prelude_names))
-
-abbrev pub has_other_code : Method → Bool
-has_other_code method = is_of_files method && is_some method.code
+-- the method has code, and is one of the class files
+abbrev pub has_file_code : Program → Method → Bool
+has_file_code program method = is_some method.code && is_of_files program method
 
 -- of the methods of the class files no other than the entry has code
-abbrev pub HasOneCode : List Method → ℕ → Type 0
-HasOneCode methods entry =
-    (m : ℕ) (method : Method) → slice_get methods m ≡ Some method → has_other_code method ≡ true → m ≡ entry
+abbrev pub HasOneCode : Program → ℕ → Type 0
+HasOneCode program entry =
+    (m : ℕ) (method : Method) → method_at program m ≡ Some method → has_file_code program method ≡ true → m ≡ entry
 
 -- the code of a method has no row that catches an exception
 abbrev pub CatchesNothing : Program → ℕ → Type 0
@@ -78,7 +75,7 @@ pub record IsFirstForm (program : Program) (policy : List ℕ) (labels : Labels)
   pub text : IsUtf8 policy
   pub parsed : parse_document policy ≡ Some tree
   pub labels_are : policy_of tree program ≡ Some labels
-  pub one_code : HasOneCode program.methods labels.entry
+  pub one_code : HasOneCode program labels.entry
   pub no_rows : CatchesNothing program labels.entry
   pub plain : IsPlainProgram program labels
 
@@ -193,7 +190,7 @@ HasShortLimits program m =
 
 -- the entry's code is the only one, catches nothing, and is plain and typed
 pub record IsFormOf (program : Program) (labels : Labels) : Type 0 where
-  pub one_code : HasOneCode program.methods labels.entry
+  pub one_code : HasOneCode program labels.entry
   pub no_rows : CatchesNothing program labels.entry
   pub plain : (code : Code) × (code_at program labels.entry ≡ Some code)
       × IsPlainFrom program labels labels.entry code 0

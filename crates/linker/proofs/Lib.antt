@@ -1,15 +1,9 @@
 mod Firsts
 mod NameLemmas
-mod CodeSteps
 mod PreludeLinks
 mod UsedLemmas
 mod TypeLemmas
 mod CountLemmas
-mod FirstLemmas
-mod SuperLemmas
-mod UseLemmas
-mod MemberLemmas
-mod BodyLemmas
 mod OrderLemmas
 mod ToldLemmas
 mod ParentsThere

@@ -11,7 +11,8 @@ use Rattle.linker.specs.declared.causes.LinkCode.{LinkCode}
 use Rattle.linker.specs.declared.causes.LinkCode.TheVariants.{TwiceDefined, MissingClass, CyclicSuper, MissingMember, NotImplemented, InterfaceBody, StaticInit, Memory}
 use Rattle.linker.specs.declared.causes.LinkFault.{LinkFault}
 use Rattle.linker.specs.Linking.{program_among, linked_classes}
-use Rattle.linker.specs.LinkFaults.{IsFirst, class_names}
+use Rattle.linker.specs.LinkFaults.{class_names}
+use Rattle.program_faults.specs.FirstFaults.{IsFirst}
 use Rattle.linker.specs.LinkOrder.{PassesAt, HasFault, HasProgramFault, HasNoProgramFault, HasNoFault, rank, HasNoneBefore, IsFirstFault, IsToldOf, IsFirstProgramFault, IsProgramAnswer, IsNamed, IsLinkFault, IsLinkAnswer}
 
 -- ---- the first that passes a test

@@ -14,6 +14,7 @@ use Rattle.class_asm.specs.Needs.{need, need_text, need_class, need_constant, ne
 use Rattle.class_asm.specs.Assembly.{assembled, code_line, member_line, line_by}
 use Rattle.class_asm.specs.Encoding.{need_operand, operation_bytes}
 use Rattle.jo_prog.specs.PreludeClasses.{prelude_names}
+use Rattle.jo_prog.specs.Sites.{insns_from}
 use Rattle.prelude.specs.Texts.{object_text, string_text, runnable_text, thread_text, throwable_text, exception_text, exceptions, lower_texts}
 use Rattle.prelude.specs.Classes.{class_of_text, object_classes, prelude_classes}
 use Rattle.linker.specs.LinkFaults.{has_interface_body, has_static_init}
@@ -26,95 +27,95 @@ pub record AreWhole (classes : List ClassFile) : Type 0 where
   pub inits : list_any has_static_init classes ≡ false
 
 whole-object : AreWhole object_classes
-unfolding class_of_text assembled need need_text need_class need_constant need_member code_line member_line line_by need_operand operation_bytes bytes_in name_in quoted_in number_in lines_of pieces items_of words statement_of names_on read_class letter_base read_base read_desc kind_names name_of_kind kind_named opcodes row_of opcode_named decoded object_text
+unfolding class_of_text assembled need need_text need_class need_constant need_member code_line member_line line_by need_operand operation_bytes bytes_in name_in quoted_in number_in lines_of pieces items_of words statement_of names_on read_class letter_base read_base read_desc kind_names name_of_kind kind_named opcodes row_of opcode_named decoded insns_from object_text
 whole-object = record { closed = refl; bodies = refl; inits = refl }
 
 whole-string : AreWhole (class_of_text string_text)
-unfolding class_of_text assembled need need_text need_class need_constant need_member code_line member_line line_by need_operand operation_bytes bytes_in name_in quoted_in number_in lines_of pieces items_of words statement_of names_on read_class letter_base read_base read_desc kind_names name_of_kind kind_named opcodes row_of opcode_named decoded string_text
+unfolding class_of_text assembled need need_text need_class need_constant need_member code_line member_line line_by need_operand operation_bytes bytes_in name_in quoted_in number_in lines_of pieces items_of words statement_of names_on read_class letter_base read_base read_desc kind_names name_of_kind kind_named opcodes row_of opcode_named decoded insns_from string_text
 whole-string = record { closed = refl; bodies = refl; inits = refl }
 
 whole-runnable : AreWhole (class_of_text runnable_text)
-unfolding class_of_text assembled need need_text need_class need_constant need_member code_line member_line line_by need_operand operation_bytes bytes_in name_in quoted_in number_in lines_of pieces items_of words statement_of names_on read_class letter_base read_base read_desc kind_names name_of_kind kind_named opcodes row_of opcode_named decoded runnable_text
+unfolding class_of_text assembled need need_text need_class need_constant need_member code_line member_line line_by need_operand operation_bytes bytes_in name_in quoted_in number_in lines_of pieces items_of words statement_of names_on read_class letter_base read_base read_desc kind_names name_of_kind kind_named opcodes row_of opcode_named decoded insns_from runnable_text
 whole-runnable = record { closed = refl; bodies = refl; inits = refl }
 
 whole-thread : AreWhole (class_of_text thread_text)
-unfolding class_of_text assembled need need_text need_class need_constant need_member code_line member_line line_by need_operand operation_bytes bytes_in name_in quoted_in number_in lines_of pieces items_of words statement_of names_on read_class letter_base read_base read_desc kind_names name_of_kind kind_named opcodes row_of opcode_named decoded thread_text
+unfolding class_of_text assembled need need_text need_class need_constant need_member code_line member_line line_by need_operand operation_bytes bytes_in name_in quoted_in number_in lines_of pieces items_of words statement_of names_on read_class letter_base read_base read_desc kind_names name_of_kind kind_named opcodes row_of opcode_named decoded insns_from thread_text
 whole-thread = record { closed = refl; bodies = refl; inits = refl }
 
 whole-throwable : AreWhole (class_of_text throwable_text)
-unfolding class_of_text assembled need need_text need_class need_constant need_member code_line member_line line_by need_operand operation_bytes bytes_in name_in quoted_in number_in lines_of pieces items_of words statement_of names_on read_class letter_base read_base read_desc kind_names name_of_kind kind_named opcodes row_of opcode_named decoded throwable_text
+unfolding class_of_text assembled need need_text need_class need_constant need_member code_line member_line line_by need_operand operation_bytes bytes_in name_in quoted_in number_in lines_of pieces items_of words statement_of names_on read_class letter_base read_base read_desc kind_names name_of_kind kind_named opcodes row_of opcode_named decoded insns_from throwable_text
 whole-throwable = record { closed = refl; bodies = refl; inits = refl }
 
 whole-Exception : AreWhole (class_of_text (exception_text (codes "Exception", codes "Throwable")))
-unfolding class_of_text assembled need need_text need_class need_constant need_member code_line member_line line_by need_operand operation_bytes bytes_in name_in quoted_in number_in lines_of pieces items_of words statement_of names_on read_class letter_base read_base read_desc kind_names name_of_kind kind_named opcodes row_of opcode_named decoded exception_text
+unfolding class_of_text assembled need need_text need_class need_constant need_member code_line member_line line_by need_operand operation_bytes bytes_in name_in quoted_in number_in lines_of pieces items_of words statement_of names_on read_class letter_base read_base read_desc kind_names name_of_kind kind_named opcodes row_of opcode_named decoded insns_from exception_text
 whole-Exception = record { closed = refl; bodies = refl; inits = refl }
 
 whole-Error : AreWhole (class_of_text (exception_text (codes "Error", codes "Throwable")))
-unfolding class_of_text assembled need need_text need_class need_constant need_member code_line member_line line_by need_operand operation_bytes bytes_in name_in quoted_in number_in lines_of pieces items_of words statement_of names_on read_class letter_base read_base read_desc kind_names name_of_kind kind_named opcodes row_of opcode_named decoded exception_text
+unfolding class_of_text assembled need need_text need_class need_constant need_member code_line member_line line_by need_operand operation_bytes bytes_in name_in quoted_in number_in lines_of pieces items_of words statement_of names_on read_class letter_base read_base read_desc kind_names name_of_kind kind_named opcodes row_of opcode_named decoded insns_from exception_text
 whole-Error = record { closed = refl; bodies = refl; inits = refl }
 
 whole-RuntimeException : AreWhole (class_of_text (exception_text (codes "RuntimeException", codes "Exception")))
-unfolding class_of_text assembled need need_text need_class need_constant need_member code_line member_line line_by need_operand operation_bytes bytes_in name_in quoted_in number_in lines_of pieces items_of words statement_of names_on read_class letter_base read_base read_desc kind_names name_of_kind kind_named opcodes row_of opcode_named decoded exception_text
+unfolding class_of_text assembled need need_text need_class need_constant need_member code_line member_line line_by need_operand operation_bytes bytes_in name_in quoted_in number_in lines_of pieces items_of words statement_of names_on read_class letter_base read_base read_desc kind_names name_of_kind kind_named opcodes row_of opcode_named decoded insns_from exception_text
 whole-RuntimeException = record { closed = refl; bodies = refl; inits = refl }
 
 whole-ArithmeticException : AreWhole (class_of_text (exception_text (codes "ArithmeticException", codes "RuntimeException")))
-unfolding class_of_text assembled need need_text need_class need_constant need_member code_line member_line line_by need_operand operation_bytes bytes_in name_in quoted_in number_in lines_of pieces items_of words statement_of names_on read_class letter_base read_base read_desc kind_names name_of_kind kind_named opcodes row_of opcode_named decoded exception_text
+unfolding class_of_text assembled need need_text need_class need_constant need_member code_line member_line line_by need_operand operation_bytes bytes_in name_in quoted_in number_in lines_of pieces items_of words statement_of names_on read_class letter_base read_base read_desc kind_names name_of_kind kind_named opcodes row_of opcode_named decoded insns_from exception_text
 whole-ArithmeticException = record { closed = refl; bodies = refl; inits = refl }
 
 whole-NullPointerException : AreWhole (class_of_text (exception_text (codes "NullPointerException", codes "RuntimeException")))
-unfolding class_of_text assembled need need_text need_class need_constant need_member code_line member_line line_by need_operand operation_bytes bytes_in name_in quoted_in number_in lines_of pieces items_of words statement_of names_on read_class letter_base read_base read_desc kind_names name_of_kind kind_named opcodes row_of opcode_named decoded exception_text
+unfolding class_of_text assembled need need_text need_class need_constant need_member code_line member_line line_by need_operand operation_bytes bytes_in name_in quoted_in number_in lines_of pieces items_of words statement_of names_on read_class letter_base read_base read_desc kind_names name_of_kind kind_named opcodes row_of opcode_named decoded insns_from exception_text
 whole-NullPointerException = record { closed = refl; bodies = refl; inits = refl }
 
 whole-ClassCastException : AreWhole (class_of_text (exception_text (codes "ClassCastException", codes "RuntimeException")))
-unfolding class_of_text assembled need need_text need_class need_constant need_member code_line member_line line_by need_operand operation_bytes bytes_in name_in quoted_in number_in lines_of pieces items_of words statement_of names_on read_class letter_base read_base read_desc kind_names name_of_kind kind_named opcodes row_of opcode_named decoded exception_text
+unfolding class_of_text assembled need need_text need_class need_constant need_member code_line member_line line_by need_operand operation_bytes bytes_in name_in quoted_in number_in lines_of pieces items_of words statement_of names_on read_class letter_base read_base read_desc kind_names name_of_kind kind_named opcodes row_of opcode_named decoded insns_from exception_text
 whole-ClassCastException = record { closed = refl; bodies = refl; inits = refl }
 
 whole-IndexOutOfBoundsException : AreWhole (class_of_text (exception_text (codes "IndexOutOfBoundsException", codes "RuntimeException")))
-unfolding class_of_text assembled need need_text need_class need_constant need_member code_line member_line line_by need_operand operation_bytes bytes_in name_in quoted_in number_in lines_of pieces items_of words statement_of names_on read_class letter_base read_base read_desc kind_names name_of_kind kind_named opcodes row_of opcode_named decoded exception_text
+unfolding class_of_text assembled need need_text need_class need_constant need_member code_line member_line line_by need_operand operation_bytes bytes_in name_in quoted_in number_in lines_of pieces items_of words statement_of names_on read_class letter_base read_base read_desc kind_names name_of_kind kind_named opcodes row_of opcode_named decoded insns_from exception_text
 whole-IndexOutOfBoundsException = record { closed = refl; bodies = refl; inits = refl }
 
 whole-ArrayStoreException : AreWhole (class_of_text (exception_text (codes "ArrayStoreException", codes "RuntimeException")))
-unfolding class_of_text assembled need need_text need_class need_constant need_member code_line member_line line_by need_operand operation_bytes bytes_in name_in quoted_in number_in lines_of pieces items_of words statement_of names_on read_class letter_base read_base read_desc kind_names name_of_kind kind_named opcodes row_of opcode_named decoded exception_text
+unfolding class_of_text assembled need need_text need_class need_constant need_member code_line member_line line_by need_operand operation_bytes bytes_in name_in quoted_in number_in lines_of pieces items_of words statement_of names_on read_class letter_base read_base read_desc kind_names name_of_kind kind_named opcodes row_of opcode_named decoded insns_from exception_text
 whole-ArrayStoreException = record { closed = refl; bodies = refl; inits = refl }
 
 whole-NegativeArraySizeException : AreWhole (class_of_text (exception_text (codes "NegativeArraySizeException", codes "RuntimeException")))
-unfolding class_of_text assembled need need_text need_class need_constant need_member code_line member_line line_by need_operand operation_bytes bytes_in name_in quoted_in number_in lines_of pieces items_of words statement_of names_on read_class letter_base read_base read_desc kind_names name_of_kind kind_named opcodes row_of opcode_named decoded exception_text
+unfolding class_of_text assembled need need_text need_class need_constant need_member code_line member_line line_by need_operand operation_bytes bytes_in name_in quoted_in number_in lines_of pieces items_of words statement_of names_on read_class letter_base read_base read_desc kind_names name_of_kind kind_named opcodes row_of opcode_named decoded insns_from exception_text
 whole-NegativeArraySizeException = record { closed = refl; bodies = refl; inits = refl }
 
 whole-IllegalArgumentException : AreWhole (class_of_text (exception_text (codes "IllegalArgumentException", codes "RuntimeException")))
-unfolding class_of_text assembled need need_text need_class need_constant need_member code_line member_line line_by need_operand operation_bytes bytes_in name_in quoted_in number_in lines_of pieces items_of words statement_of names_on read_class letter_base read_base read_desc kind_names name_of_kind kind_named opcodes row_of opcode_named decoded exception_text
+unfolding class_of_text assembled need need_text need_class need_constant need_member code_line member_line line_by need_operand operation_bytes bytes_in name_in quoted_in number_in lines_of pieces items_of words statement_of names_on read_class letter_base read_base read_desc kind_names name_of_kind kind_named opcodes row_of opcode_named decoded insns_from exception_text
 whole-IllegalArgumentException = record { closed = refl; bodies = refl; inits = refl }
 
 whole-IllegalStateException : AreWhole (class_of_text (exception_text (codes "IllegalStateException", codes "RuntimeException")))
-unfolding class_of_text assembled need need_text need_class need_constant need_member code_line member_line line_by need_operand operation_bytes bytes_in name_in quoted_in number_in lines_of pieces items_of words statement_of names_on read_class letter_base read_base read_desc kind_names name_of_kind kind_named opcodes row_of opcode_named decoded exception_text
+unfolding class_of_text assembled need need_text need_class need_constant need_member code_line member_line line_by need_operand operation_bytes bytes_in name_in quoted_in number_in lines_of pieces items_of words statement_of names_on read_class letter_base read_base read_desc kind_names name_of_kind kind_named opcodes row_of opcode_named decoded insns_from exception_text
 whole-IllegalStateException = record { closed = refl; bodies = refl; inits = refl }
 
 whole-IllegalMonitorStateException : AreWhole (class_of_text (exception_text (codes "IllegalMonitorStateException", codes "RuntimeException")))
-unfolding class_of_text assembled need need_text need_class need_constant need_member code_line member_line line_by need_operand operation_bytes bytes_in name_in quoted_in number_in lines_of pieces items_of words statement_of names_on read_class letter_base read_base read_desc kind_names name_of_kind kind_named opcodes row_of opcode_named decoded exception_text
+unfolding class_of_text assembled need need_text need_class need_constant need_member code_line member_line line_by need_operand operation_bytes bytes_in name_in quoted_in number_in lines_of pieces items_of words statement_of names_on read_class letter_base read_base read_desc kind_names name_of_kind kind_named opcodes row_of opcode_named decoded insns_from exception_text
 whole-IllegalMonitorStateException = record { closed = refl; bodies = refl; inits = refl }
 
 whole-UnsupportedOperationException : AreWhole (class_of_text (exception_text (codes "UnsupportedOperationException", codes "RuntimeException")))
-unfolding class_of_text assembled need need_text need_class need_constant need_member code_line member_line line_by need_operand operation_bytes bytes_in name_in quoted_in number_in lines_of pieces items_of words statement_of names_on read_class letter_base read_base read_desc kind_names name_of_kind kind_named opcodes row_of opcode_named decoded exception_text
+unfolding class_of_text assembled need need_text need_class need_constant need_member code_line member_line line_by need_operand operation_bytes bytes_in name_in quoted_in number_in lines_of pieces items_of words statement_of names_on read_class letter_base read_base read_desc kind_names name_of_kind kind_named opcodes row_of opcode_named decoded insns_from exception_text
 whole-UnsupportedOperationException = record { closed = refl; bodies = refl; inits = refl }
 
 whole-ArrayIndexOutOfBoundsException : AreWhole (class_of_text (exception_text (codes "ArrayIndexOutOfBoundsException", codes "IndexOutOfBoundsException")))
-unfolding class_of_text assembled need need_text need_class need_constant need_member code_line member_line line_by need_operand operation_bytes bytes_in name_in quoted_in number_in lines_of pieces items_of words statement_of names_on read_class letter_base read_base read_desc kind_names name_of_kind kind_named opcodes row_of opcode_named decoded exception_text
+unfolding class_of_text assembled need need_text need_class need_constant need_member code_line member_line line_by need_operand operation_bytes bytes_in name_in quoted_in number_in lines_of pieces items_of words statement_of names_on read_class letter_base read_base read_desc kind_names name_of_kind kind_named opcodes row_of opcode_named decoded insns_from exception_text
 whole-ArrayIndexOutOfBoundsException = record { closed = refl; bodies = refl; inits = refl }
 
 whole-IllegalThreadStateException : AreWhole (class_of_text (exception_text (codes "IllegalThreadStateException", codes "IllegalArgumentException")))
-unfolding class_of_text assembled need need_text need_class need_constant need_member code_line member_line line_by need_operand operation_bytes bytes_in name_in quoted_in number_in lines_of pieces items_of words statement_of names_on read_class letter_base read_base read_desc kind_names name_of_kind kind_named opcodes row_of opcode_named decoded exception_text
+unfolding class_of_text assembled need need_text need_class need_constant need_member code_line member_line line_by need_operand operation_bytes bytes_in name_in quoted_in number_in lines_of pieces items_of words statement_of names_on read_class letter_base read_base read_desc kind_names name_of_kind kind_named opcodes row_of opcode_named decoded insns_from exception_text
 whole-IllegalThreadStateException = record { closed = refl; bodies = refl; inits = refl }
 
 whole-InterruptedException : AreWhole (class_of_text (exception_text (codes "InterruptedException", codes "Exception")))
-unfolding class_of_text assembled need need_text need_class need_constant need_member code_line member_line line_by need_operand operation_bytes bytes_in name_in quoted_in number_in lines_of pieces items_of words statement_of names_on read_class letter_base read_base read_desc kind_names name_of_kind kind_named opcodes row_of opcode_named decoded exception_text
+unfolding class_of_text assembled need need_text need_class need_constant need_member code_line member_line line_by need_operand operation_bytes bytes_in name_in quoted_in number_in lines_of pieces items_of words statement_of names_on read_class letter_base read_base read_desc kind_names name_of_kind kind_named opcodes row_of opcode_named decoded insns_from exception_text
 whole-InterruptedException = record { closed = refl; bodies = refl; inits = refl }
 
 whole-LinkageError : AreWhole (class_of_text (exception_text (codes "LinkageError", codes "Error")))
-unfolding class_of_text assembled need need_text need_class need_constant need_member code_line member_line line_by need_operand operation_bytes bytes_in name_in quoted_in number_in lines_of pieces items_of words statement_of names_on read_class letter_base read_base read_desc kind_names name_of_kind kind_named opcodes row_of opcode_named decoded exception_text
+unfolding class_of_text assembled need need_text need_class need_constant need_member code_line member_line line_by need_operand operation_bytes bytes_in name_in quoted_in number_in lines_of pieces items_of words statement_of names_on read_class letter_base read_base read_desc kind_names name_of_kind kind_named opcodes row_of opcode_named decoded insns_from exception_text
 whole-LinkageError = record { closed = refl; bodies = refl; inits = refl }
 
 whole-IncompatibleClassChangeError : AreWhole (class_of_text (exception_text (codes "IncompatibleClassChangeError", codes "LinkageError")))
-unfolding class_of_text assembled need need_text need_class need_constant need_member code_line member_line line_by need_operand operation_bytes bytes_in name_in quoted_in number_in lines_of pieces items_of words statement_of names_on read_class letter_base read_base read_desc kind_names name_of_kind kind_named opcodes row_of opcode_named decoded exception_text
+unfolding class_of_text assembled need need_text need_class need_constant need_member code_line member_line line_by need_operand operation_bytes bytes_in name_in quoted_in number_in lines_of pieces items_of words statement_of names_on read_class letter_base read_base read_desc kind_names name_of_kind kind_named opcodes row_of opcode_named decoded insns_from exception_text
 whole-IncompatibleClassChangeError = record { closed = refl; bodies = refl; inits = refl }
 
 lower_whole : AllByRecursion (λ text. AreWhole (class_of_text text)) lower_texts

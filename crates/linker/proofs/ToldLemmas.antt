@@ -7,11 +7,12 @@ use Rattle.linker.specs.declared.causes.LinkCode.{LinkCode}
 use Rattle.linker.specs.declared.causes.LinkCode.TheVariants.{TwiceDefined, MissingClass, CyclicSuper, MissingMember, NotImplemented, InterfaceBody, StaticInit, Memory}
 use Rattle.linker.specs.declared.causes.LinkFault.{LinkFault}
 use Rattle.linker.specs.Linking.{program_among, linked_classes}
-use Rattle.linker.specs.LinkFaults.{IsFirst, IsTwiceDefined, class_names, has_interface_body, has_static_init}
+use Rattle.linker.specs.LinkFaults.{IsTwiceDefined, class_names, has_interface_body, has_static_init}
+use Rattle.program_faults.specs.FirstFaults.{IsFirst}
 use Rattle.linker.specs.NeededClasses.{lacks_class}
-use Rattle.linker.specs.SuperFaults.{IsCyclicSuper}
-use Rattle.linker.specs.MemberFaults.{LacksMember}
-use Rattle.linker.specs.BodyFaults.{IsNotImplemented}
+use Rattle.program_faults.specs.SuperFaults.{IsCyclicSuper}
+use Rattle.program_faults.specs.MemberFaults.{LacksMember}
+use Rattle.program_faults.specs.BodyFaults.{IsNotImplemented}
 use Rattle.linker.specs.LinkOrder.{HasFault, HasProgramFault, HasNoProgramFault, HasNoFault, rank, HasNoneBefore, IsFirstFault, IsToldOf, IsFirstProgramFault, IsProgramAnswer, IsNamed, IsLinkFault, IsLinkAnswer}
 use Rattle.linker.proofs.OrderLemmas.{first_at, none_at, none_first, none_next}
 

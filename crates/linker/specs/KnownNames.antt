@@ -3,7 +3,8 @@ use Rattle.std.specs.Prelude.{ℕ, List, Vec}
 use Rattle.std.specs.declared.alloc.Global.{Global}
 use Rattle.linker.specs.declared.names.TwiceDefined.{TwiceDefined}
 use Rattle.linker.specs.declared.names.TwiceDefined.TheVariants.{Of, Memory}
-use Rattle.linker.specs.LinkFaults.{IsFirst, IsTwiceDefined}
+use Rattle.linker.specs.LinkFaults.{IsTwiceDefined}
+use Rattle.program_faults.specs.FirstFaults.{IsFirst}
 
 abbrev pub text_in : Vec ℕ Global → List ℕ
 text_in text = text.items

@@ -4,9 +4,4 @@ pub mod NeededClasses
 pub mod KnownNames
 pub mod UsedEntries
 pub mod ClassPlaces
-pub mod FirstFaults
-pub mod SuperFaults
-pub mod UsedOperands
-pub mod MemberFaults
-pub mod BodyFaults
 pub mod LinkOrder

@@ -1,6 +1,6 @@
 -- Why classes make no program (JVM Specification SE 8, 4.1, 4.5, 4.6, 2.9; which faults there are is this project's own).
 -- Classes have numbers by their places in a list, and the first that has a fault counts.
-use Rattle.std.specs.Prelude.{ℕ, ◌<◌, Bool, ◌&&◌, ◌||◌, not, List, map, take, slice_get, codes}
+use Rattle.std.specs.Prelude.{ℕ, Bool, ◌&&◌, ◌||◌, not, List, map, take, slice_get, codes}
 use Rattle.std.specs.List.{Contains, list_any}
 use Rattle.std.specs.Option.{is_some, IsSomeAnd}
 use Rattle.std.specs.Str.{bytes_eq}
@@ -8,12 +8,8 @@ use Rattle.jo_insn.specs.AccessFlags.{has_flag, static_flag}
 use Rattle.class_pool.specs.declared.classes.ClassFile.{ClassFile}
 use Rattle.class_pool.specs.declared.classes.FieldInfo.{FieldInfo}
 use Rattle.class_pool.specs.declared.classes.MethodInfo.{MethodInfo}
+use Rattle.program_faults.specs.SuperFaults.{interface_flag}
 use Rattle.linker.specs.Linking.{text_at, this_name}
-
--- P holds of this number, and of none before it
-pub record IsFirst (P : ℕ → Type 0) (k : ℕ) : Type 0 where
-  pub here : P k
-  pub before : (j : ℕ) → j < k → P j → ⊥
 
 -- ---- two classes of one name
 
@@ -29,10 +25,6 @@ abbrev pub IsTwiceDefined : List (List ℕ) → ℕ → Type 0
 IsTwiceDefined names k = IsSomeAnd (slice_get names k) (λ name. Contains (take k names) name)
 
 -- ---- interfaces (4.1): here their methods have no code, and their fields are static
-
--- ACC_INTERFACE
-abbrev pub interface_flag : ℕ
-interface_flag = 0x0200
 
 abbrev pub has_code : MethodInfo → Bool
 has_code method = is_some method.code

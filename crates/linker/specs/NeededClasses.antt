@@ -2,17 +2,14 @@
 -- are needed is this project's own). The test says of a name whether a class has it.
 use Rattle.std.specs.Prelude.{ℕ, zero, suc, ◌+◌, ◌-◌, ◌^◌, Bool, true, ◌&&◌, not, nat_lt, ◌==◌, if◌then◌else◌, List, [], ◌∷◌, length, take, drop, slice_index, Option, Some, None, Result, Ok, Err}
 use Rattle.std.specs.List.{list_all}
-use Rattle.jo_insn.specs.declared.instructions.Insn.{Insn}
-use Rattle.jo_insn.specs.declared.instructions.Insn.TheVariants.{Pooled}
-use Rattle.jo_insn.specs.declared.instructions.InsnFault.{InsnFault}
-use Rattle.jo_insn.specs.Instructions.{decoded}
 use Rattle.class_pool.specs.declared.entries.PoolEntry.{PoolEntry}
 use Rattle.class_pool.specs.declared.entries.PoolEntry.TheVariants.{Class, FieldRef, MethodRef, InterfaceMethodRef}
 use Rattle.class_pool.specs.declared.classes.ClassFile.{ClassFile}
 use Rattle.class_pool.specs.declared.classes.CodeInfo.{CodeInfo}
 use Rattle.class_pool.specs.declared.classes.MethodInfo.{MethodInfo}
 use Rattle.class_pool.specs.declared.classes.RowInfo.{RowInfo}
-use Rattle.class_pool.specs.Pool.{entry_at, utf8_at, class_name_at, desc_at}
+use Rattle.class_pool.specs.Pool.{utf8_at, class_name_at, desc_at}
+use Rattle.linker.specs.Linking.{is_used}
 use Rattle.linker.specs.LinkFaults.{is_known}
 
 -- ---- descriptors and types
@@ -50,52 +47,44 @@ is_type_there there (Some name) = if slice_index name 0 == 91 then names_there t
 abbrev pub is_member_there : (List ℕ → Bool) → List PoolEntry → ℕ → ℕ → Bool
 is_member_there there pool class type = is_type_there there (class_name_at pool class) && is_desc_there there (desc_at pool type)
 
-abbrev pub is_entry_there : (List ℕ → Bool) → List PoolEntry → Option PoolEntry → Bool
-is_entry_there there pool (Some (Class name)) = is_type_there there (utf8_at pool name)
-is_entry_there there pool (Some (FieldRef class type)) = is_member_there there pool class type
-is_entry_there there pool (Some (MethodRef class type)) = is_member_there there pool class type
-is_entry_there there pool (Some (InterfaceMethodRef class type)) = is_member_there there pool class type
+abbrev pub is_entry_there : (List ℕ → Bool) → List PoolEntry → PoolEntry → Bool
+is_entry_there there pool (Class name) = is_type_there there (utf8_at pool name)
+is_entry_there there pool (FieldRef class type) = is_member_there there pool class type
+is_entry_there there pool (MethodRef class type) = is_member_there there pool class type
+is_entry_there there pool (InterfaceMethodRef class type) = is_member_there there pool class type
 is_entry_there there pool _ = true
 
-abbrev pub is_operand_there : (List ℕ → Bool) → List PoolEntry → Insn → Bool
-is_operand_there there pool (Pooled op index) = is_entry_there there pool (entry_at pool index)
-is_operand_there there pool _ = true
-
--- what the instructions from a pc on name, up to the first place where none stands; the first number bounds how many there are
-abbrev pub are_operands_there : (List ℕ → Bool) → List PoolEntry → List ℕ → ℕ → ℕ → Bool
-are_operands_there there pool code zero pc = true
-are_operands_there there pool code (suc k) pc = from_here (decoded code pc) (λ next. are_operands_there there pool code k next)
-  where
-    from_here : Result (Insn × ℕ) InsnFault → (ℕ → Bool) → Bool
-    from_here (Err fault) more = true
-    from_here (Ok found) more = is_operand_there there pool found.0 && more found.1
+-- of the entries from an index on each that an instruction of the class names
+abbrev pub are_used_there : (List ℕ → Bool) → ClassFile → ℕ → List PoolEntry → Bool
+are_used_there there class k [] = true
+are_used_there there class k (entry ∷ more) =
+    (if is_used class k then is_entry_there there class.pool entry else true) && are_used_there there class (k + 1) more
 
 -- the class that a row catches; 0 names none
 abbrev pub is_caught_there : (List ℕ → Bool) → List PoolEntry → RowInfo → Bool
 is_caught_there there pool row = is_type_there there (class_name_at pool row.catch_type)
 
--- code has fewer than 65,536 bytes (4.7.3), so longer code has no instructions
-abbrev pub is_code_there : (List ℕ → Bool) → List PoolEntry → CodeInfo → Bool
-is_code_there there pool code = (if nat_lt (length code.bytes) (2 ^ 16) then are_operands_there there pool code.bytes (length code.bytes) 0 else true)
-    && list_all (is_caught_there there pool) code.rows
-
 -- ---- classes
 
--- a method without code needs none
+-- the descriptor of a method with code, and the classes that its rows catch; a method without code needs none
 abbrev pub is_method_there : (List ℕ → Bool) → List PoolEntry → MethodInfo → Bool
 is_method_there there pool method = by_code method.code
   where
     by_code : Option CodeInfo → Bool
     by_code None = true
-    by_code (Some code) = is_desc_there there (utf8_at pool method.desc) && is_code_there there pool code
+    by_code (Some code) = is_desc_there there (utf8_at pool method.desc) && list_all (is_caught_there there pool) code.rows
 
 abbrev pub is_interface_there : (List ℕ → Bool) → List PoolEntry → ℕ → Bool
 is_interface_there there pool index = is_type_there there (class_name_at pool index)
 
 -- its superclass, its interfaces, and what its methods need
-abbrev pub has_needed : (List ℕ → Bool) → ClassFile → Bool
-has_needed there class = is_type_there there (class_name_at class.pool class.super_class)
+abbrev pub has_parts : (List ℕ → Bool) → ClassFile → Bool
+has_parts there class = is_type_there there (class_name_at class.pool class.super_class)
     && (list_all (is_interface_there there class.pool) class.interfaces && list_all (is_method_there there class.pool) class.methods)
+
+-- and what its instructions name
+abbrev pub has_needed : (List ℕ → Bool) → ClassFile → Bool
+has_needed there class = has_parts there class && are_used_there there class 1 class.pool
 
 abbrev pub lacks_class : List (List ℕ) → ClassFile → Bool
 lacks_class names class = not (has_needed (is_known names) class)

@@ -1,14 +1,13 @@
 //! Why classes make no program.
 ghost use Rattle.std.specs.Prelude.{◌≡◌, ◌<◌, ◌^◌, length, position};
 ghost use Rattle.std.specs.List.{list_any};
-ghost use Rattle.linker.specs.LinkFaults.{interface_flag, has_code, is_of_instances, has_interface_body, is_static_init, has_static_init};
+ghost use Rattle.linker.specs.LinkFaults.{has_code, is_of_instances, has_interface_body, is_static_init, has_static_init};
+ghost use Rattle.program_faults.specs.SuperFaults.{interface_flag};
 
 use class_pool::{ClassFile, FieldInfo, MethodInfo, utf8_at};
 use jo_ids::ClassId;
 use jo_insn::{ACC_STATIC, has_flag};
-
-/// An interface, not a class (4.1).
-pub(crate) const ACC_INTERFACE: u16 = 0x0200;
+use program_faults::supers::ACC_INTERFACE;
 
 fn some_code(methods: &[MethodInfo]) -> bool
     ensures { result ≡ list_any has_code methods.now }

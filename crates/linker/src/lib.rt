@@ -1,41 +1,34 @@
 //! Makes the program of class files.
 #![tactic(auto)]
 
-pub mod bodies;
 pub mod causes;
 pub mod faults;
 pub mod laws;
-pub mod member_faults;
 pub mod names;
 pub mod needs;
 mod operands;
 mod programs;
-pub mod supers;
 #[cfg(test)]
 mod tests;
 mod texts;
 mod used;
-pub mod uses;
 
 ghost use Rattle.std.specs.Prelude.{◌≡◌, ℕ, ◌<◌, ◌^◌, length, IfOk, IfErr, OnOk};
 ghost use Rattle.hierarchy.specs.Hierarchies.{HasItsParents, IsHierarchyOf};
 ghost use Rattle.hierarchy.specs.Resolutions.{AreResolutionsOf};
-ghost use Rattle.linker.specs.SuperFaults.{IsCyclicSuper};
-ghost use Rattle.linker.specs.MemberFaults.{LacksMember};
+ghost use Rattle.program_faults.specs.SuperFaults.{IsCyclicSuper};
+ghost use Rattle.program_faults.specs.MemberFaults.{LacksMember};
 ghost use Rattle.jo_prog.specs.Program.{HasNumbers};
 ghost use Rattle.linker.specs.Linking.{program_among, linked_classes, program_of};
 ghost use Rattle.linker.specs.LinkFaults.{class_names, IsTwiceDefined};
 ghost use Rattle.linker.specs.LinkOrder.{HasNoneBefore, HasNoFault, HasNoProgramFault, IsToldOf, IsProgramAnswer, IsNamed, IsLinkFault, IsLinkAnswer};
 ghost use Rattle.linker.specs.declared.causes.LinkFault.{LinkFault};
 
-use crate::bodies::not_implemented;
 use crate::causes::LinkCause;
 use crate::faults::{interface_body, static_init};
-use crate::member_faults::missing_member;
 use crate::names::{ClassNames, TwiceDefined, name_of, names_of};
 use crate::needs::missing_class;
 use crate::programs::program_among;
-use crate::supers::cyclic_super;
 use crate::texts::named;
 pub use causes::{LinkCode, LinkFault};
 use class_pool::ClassFile;
@@ -45,6 +38,9 @@ use jo_ids::{ClassId, List, Memory};
 use jo_prog::lists::add;
 use jo_prog::program::Program;
 use jo_text::Name;
+use program_faults::bodies::not_implemented;
+use program_faults::member_faults::missing_member;
+use program_faults::supers::cyclic_super;
 use std::alloc::{AllocError, Global};
 
 /// The prelude's classes, and then those of the files.
@@ -68,19 +64,24 @@ fn no_memory() -> LinkCause
 }
 
 /// Whether each class is there that one of them needs.
-fn check_needs(names: &ClassNames, classes: &[ClassFile]) -> Result<(), LinkCause>
+fn check_needs(
+    alloc: Global,
+    names: &ClassNames,
+    classes: &[ClassFile],
+) -> Result<(), LinkCause>
     requires few { length classes.now < 2 ^ 32 }
     requires names { names.now ≡ class_names classes.now }
     requires once { (k : ℕ) → IsTwiceDefined names.now k → ⊥ }
     ensures none { OnOk result (HasNoneBefore classes.now 3) }
     ensures fault { IfErr result (λ cause. IsToldOf classes.now cause.code cause.class) }
 {
-    match missing_class(names, classes) {
-        None => Ok(()),
-        Some(class) => Err(LinkCause {
+    match missing_class(alloc, names, classes) {
+        Ok(None) => Ok(()),
+        Ok(Some(class)) => Err(LinkCause {
             code: LinkCode::MissingClass,
             class,
         }),
+        Err(_) => Err(no_memory()),
     }
 }
 
@@ -187,7 +188,7 @@ fn checked_program(
     ensures none { IfOk result (λ _. HasNoFault classes.now) }
     ensures fault { IfErr result (λ cause. IsToldOf classes.now cause.code cause.class) }
 {
-    match check_needs(names, classes) {
+    match check_needs(alloc, names, classes) {
         Ok(()) => (),
         Err(cause) => return Err(cause),
     }

@@ -1,16 +1,15 @@
 //! Whether the classes are there that a class needs.
-ghost use Rattle.std.specs.Prelude.{◌≡◌, ◌+◌, ◌<◌, ◌≤◌, ◌^◌, length, position, IfSome};
+ghost use Rattle.std.specs.Prelude.{◌≡◌, ◌+◌, ◌<◌, ◌≤◌, ◌^◌, length, position, IfOk, IfSome};
 ghost use Rattle.std.specs.List.{list_all};
 ghost use Rattle.std.specs.Option.{option_copied};
 ghost use Rattle.linker.specs.LinkFaults.{is_known};
-ghost use Rattle.linker.specs.NeededClasses.{begun_behind as begun_next, ends_well as ends_so, names_there, is_desc_there as desc_there, is_type_there as type_there, is_member_there as member_there, is_entry_there as entry_there, is_operand_there as operand_there, are_operands_there as operands_there, is_caught_there, is_code_there as code_there, is_method_there as method_there, is_interface_there, has_needed as needed_there, lacks_class};
+ghost use Rattle.linker.specs.NeededClasses.{begun_behind as begun_next, ends_well as ends_so, names_there, is_desc_there as desc_there, is_type_there as type_there, is_member_there as member_there, is_entry_there as entry_there, are_used_there as used_there, is_caught_there, is_method_there as method_there, is_interface_there, has_parts, lacks_class};
 
 use crate::names::ClassNames;
-use class_pool::{
-    ClassFile, CodeInfo, MethodInfo, PoolEntry, RowInfo, class_name_at, desc_at, entry_at, utf8_at,
-};
-use jo_ids::ClassId;
-use jo_insn::{Insn, decode};
+use crate::used::used_entries;
+use class_pool::{ClassFile, MethodInfo, PoolEntry, RowInfo, class_name_at, desc_at, utf8_at};
+use jo_ids::{ClassId, Memory};
+use std::alloc::{AllocError, Global};
 
 /// Where the name begins that hasn't ended behind this byte.
 fn begun_behind(begun: Option<usize>, place: usize, byte: u8) -> Option<usize>
@@ -84,47 +83,31 @@ fn is_member_there(names: &ClassNames, pool: &[PoolEntry], class: u16, kind: u16
     is_type_there(names, class_name_at(pool, class)) && is_desc_there(names, desc_at(pool, kind))
 }
 
-fn is_entry_there(names: &ClassNames, pool: &[PoolEntry], entry: Option<&PoolEntry>) -> bool
-    ensures { result ≡ entry_there (is_known names.now) pool.now (option_copied entry.entry) }
+fn is_entry_there(names: &ClassNames, pool: &[PoolEntry], entry: &PoolEntry) -> bool
+    ensures { result ≡ entry_there (is_known names.now) pool.now entry.now }
 {
     match entry {
-        Some(PoolEntry::Class(name)) => is_type_there(names, utf8_at(pool, *name)),
-        Some(
-            PoolEntry::FieldRef(class, kind)
-            | PoolEntry::MethodRef(class, kind)
-            | PoolEntry::InterfaceMethodRef(class, kind),
-        ) => is_member_there(names, pool, *class, *kind),
+        PoolEntry::Class(name) => is_type_there(names, utf8_at(pool, *name)),
+        PoolEntry::FieldRef(class, kind) => is_member_there(names, pool, *class, *kind),
+        PoolEntry::MethodRef(class, kind) => is_member_there(names, pool, *class, *kind),
+        PoolEntry::InterfaceMethodRef(class, kind) => is_member_there(names, pool, *class, *kind),
         _ => true,
     }
 }
 
-fn is_operand_there(names: &ClassNames, pool: &[PoolEntry], insn: Insn) -> bool
-    ensures { result ≡ operand_there (is_known names.now) pool.now insn }
+/// Whether what the instructions of a class name is there. Each entry is looked at once.
+fn are_used_there(alloc: Global, names: &ClassNames, class: &ClassFile) -> Result<bool, Memory>
+    ensures { IfOk result (λ there. there ≡ used_there (is_known names.now) class.now 1 class.now.pool) }
 {
-    match insn {
-        Insn::Pooled { index, .. } => is_entry_there(names, pool, entry_at(pool, index)),
-        _ => true,
-    }
-}
-
-/// Whether what the instructions of some code name is there. There are at most as many as bytes.
-fn are_operands_there(names: &ClassNames, pool: &[PoolEntry], code: &[u8]) -> bool
-    requires { length code.now < 2 ^ 16 }
-    ensures { result ≡ operands_there (is_known names.now) pool.now code.now (length code.now) 0 }
-{
-    let mut pc = 0;
-    for _ in 0..code.len() {
-        match decode(code, pc) {
-            Ok((insn, next)) => {
-                if !is_operand_there(names, pool, insn) {
-                    return false;
-                }
-                pc = next;
-            }
-            Err(_) => return true,
+    let used = used_entries(alloc, class)?;
+    let pool = class.pool.as_slice();
+    for (place, entry) in pool.iter().enumerate() {
+        let is_used = used.has(place as u32 + 1);
+        if is_used && !is_entry_there(names, pool, entry) {
+            return Ok(false);
         }
     }
-    true
+    Ok(true)
 }
 
 fn are_caught_there(names: &ClassNames, pool: &[PoolEntry], rows: &[RowInfo]) -> bool
@@ -138,20 +121,13 @@ fn are_caught_there(names: &ClassNames, pool: &[PoolEntry], rows: &[RowInfo]) ->
     true
 }
 
-fn is_code_there(names: &ClassNames, pool: &[PoolEntry], code: &CodeInfo) -> bool
-    ensures { result ≡ code_there (is_known names.now) pool.now code.now }
-{
-    let bytes = code.bytes.as_slice();
-    let named = bytes.len() >= 1 << 16 || are_operands_there(names, pool, bytes);
-    named && are_caught_there(names, pool, code.rows.as_slice())
-}
-
 fn is_method_there(names: &ClassNames, pool: &[PoolEntry], method: &MethodInfo) -> bool
     ensures { result ≡ method_there (is_known names.now) pool.now method.now }
 {
     match &method.code {
         Some(code) => {
-            is_desc_there(names, utf8_at(pool, method.desc)) && is_code_there(names, pool, code)
+            is_desc_there(names, utf8_at(pool, method.desc))
+                && are_caught_there(names, pool, code.rows.as_slice())
         }
         None => true,
     }
@@ -179,8 +155,9 @@ fn are_interfaces_there(names: &ClassNames, pool: &[PoolEntry], interfaces: &[u1
     true
 }
 
-fn has_needed(names: &ClassNames, class: &ClassFile) -> bool
-    ensures { result ≡ needed_there (is_known names.now) class.now }
+/// Whether what a class names but by its instructions is there.
+fn has_parts(names: &ClassNames, class: &ClassFile) -> bool
+    ensures { result ≡ has_parts (is_known names.now) class.now }
 {
     let pool = class.pool.as_slice();
     is_type_there(names, class_name_at(pool, class.super_class))
@@ -188,15 +165,29 @@ fn has_needed(names: &ClassNames, class: &ClassFile) -> bool
         && are_methods_there(names, pool, class.methods.as_slice())
 }
 
+fn lacks_class(alloc: Global, names: &ClassNames, class: &ClassFile) -> Result<bool, Memory>
+    ensures { IfOk result (λ lacks. lacks ≡ lacks_class names.now class.now) }
+{
+    if !has_parts(names, class) {
+        return Ok(true);
+    }
+    let there = are_used_there(alloc, names, class)?;
+    Ok(!there)
+}
+
 /// The first class that names one, where it runs, that isn't among the names.
-pub fn missing_class(names: &ClassNames, classes: &[ClassFile]) -> Option<ClassId>
+pub fn missing_class(
+    alloc: Global,
+    names: &ClassNames,
+    classes: &[ClassFile],
+) -> Result<Option<ClassId>, Memory>
     requires few { length classes.now < 2 ^ 32 }
-    ensures { result ≡ position (lacks_class names.now) classes.now }
+    ensures { IfOk result (λ first. first ≡ position (lacks_class names.now) classes.now) }
 {
     for (number, class) in classes.iter().enumerate() {
-        if !has_needed(names, class) {
-            return Some(ClassId::of(number as u32));
+        if lacks_class(alloc, names, class)? {
+            return Ok(Some(ClassId::of(number as u32)));
         }
     }
-    None
+    Ok(None)
 }

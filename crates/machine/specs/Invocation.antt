@@ -1,6 +1,6 @@
 -- What a call does with its values, as one pure function over any type of addresses (JVM Specification SE 8, 6.5, the four calls). A
 -- source, a sink and a release are what the policy says, and starting and joining threads are those of java/lang/Thread (this project's own).
-use Rattle.std.specs.Prelude.{ℕ, ◌+◌, Bool, true, false, ◌==◌, not, if◌then◌else◌, ℤ, List, [], ◌∷◌, Option, Some, None, codes}
+use Rattle.std.specs.Prelude.{ℕ, ◌+◌, Bool, true, false, ◌==◌, not, if◌then◌else◌, ℤ, List, [], ◌∷◌, Option, Some, None}
 use Rattle.jo_prog.specs.declared.program.Program.{Program}
 use Rattle.jo_prog.specs.declared.program.TypeRef.{TypeRef}
 use Rattle.jo_prog.specs.declared.program.TypeRef.TheVariants.{Class as OfClass, Array as OfArray}
@@ -12,8 +12,7 @@ use Rattle.jo_prog.specs.declared.calls.Taken.TheVariants.{Code, Start, Join, Na
 use Rattle.jo_prog.specs.declared.sites.Cause.{Cause}
 use Rattle.jo_prog.specs.declared.sites.Cause.TheVariants.{NullBase, SecondStart, MissingInterface}
 use Rattle.jo_prog.specs.PreludeClasses.{object_number}
-use Rattle.jo_prog.specs.Calls.{takes, taken_from}
-use Rattle.jo_prog.specs.Hierarchy.{search_from}
+use Rattle.jo_prog.specs.Calls.{takes, run_of}
 use Rattle.jo_prog.specs.Labels.{label_of}
 use Rattle.jo_prog.specs.Types.{type_fits}
 use Rattle.jo_prog.specs.Values.{Value, int, null, ref, Info, object, array}
@@ -40,10 +39,6 @@ class_of (array type length) = object_number
 abbrev pub type_of : Info → TypeRef
 type_of (object c) = OfClass c
 type_of (array type length) = OfArray (record { dims = type.dims + 1; base = type.base })
-
--- the method `run` that an object's class selects
-abbrev pub run_of : Program → ℕ → Taken
-run_of program c = taken_from program (search_from program c (codes "run") (codes "()V"))
 
 -- a call with this opcode in a class, of a method of a named type: 184 invokestatic, 185 invokeinterface
 abbrev pub callee : Program → Labels → ℕ → ℕ → TypeRef → ℕ → Callee

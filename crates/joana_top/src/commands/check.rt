@@ -10,13 +10,14 @@ ghost use Rattle.joana_base.specs.Files.{AreReadable};
 ghost use Rattle.joana_base.specs.declared.answers.Stop.TheVariants.{Faulty};
 ghost use Rattle.joana_base.specs.declared.status.Refusal.TheVariants.{Input};
 ghost use Rattle.joana_base.specs.declared.status.InputFault.TheVariants.{NotBuilt};
-ghost use Rattle.joana_top.specs.Check.{kind_of, link_stop, is_of_files, has_other_code, IsLinked, IsLinkStop, HasOneCode, CatchesNothing, HasLimits, HasShortLimits, IsFormOf, IsVerdict, IsDecision, IsShown, IsFilesOutcome, IsCheckOutcome};
+ghost use Rattle.joana_top.specs.Check.{kind_of, link_stop, has_file_code, IsLinked, IsLinkStop, HasOneCode, CatchesNothing, HasLimits, HasShortLimits, IsFormOf, IsVerdict, IsDecision, IsShown, IsFilesOutcome, IsCheckOutcome};
 
 use class_pool::ClassFile;
 use flow_graph::sdg;
 use jo_ids::MethodId;
 use jo_io::Files;
 use jo_policy::read_policy;
+use jo_prog::files::is_of_files;
 use jo_prog::jvm_typing;
 use jo_prog::labels::Labels;
 use jo_prog::program::{Method, Program, code_at};
@@ -27,9 +28,6 @@ use joana_base::{
 use linker::{LinkCode, LinkFault, link};
 use low_run::refusal;
 use std::alloc::{AllocError as Memory, Global};
-
-/// How many classes the prelude has, which come first in a program.
-const PRELUDE: u32 = 23;
 
 /// What there is to say of the program and the policy.
 #[derive(Drop)]
@@ -78,26 +76,19 @@ fn linked(alloc: Global, classes: Vec<ClassFile>) -> Result<Program, Stop>
     }
 }
 
-/// Whether the method is one of the class files.
-fn is_of_files(method: &Method) -> bool
-    ensures { result ≡ is_of_files method.now }
+/// Whether the method has code and is one of the class files.
+fn has_file_code(program: &Program, method: &Method) -> bool
+    ensures { result ≡ has_file_code program.now method.now }
 {
-    method.class.number() >= PRELUDE
-}
-
-/// Whether a method of the class files has code.
-fn has_other_code(method: &Method) -> bool
-    ensures { result ≡ has_other_code method.now }
-{
-    is_of_files(method) && method.code.is_some()
+    method.code.is_some() && is_of_files(program, method)
 }
 
 /// Whether no method of the class files but the entry has code.
-fn has_one_code(methods: &[Method], entry: MethodId) -> bool
-    ensures { IsTrue result ↔ HasOneCode methods.now entry }
+fn has_one_code(program: &Program, entry: MethodId) -> bool
+    ensures { IsTrue result ↔ HasOneCode program.now entry }
 {
-    for (place, method) in methods.iter().enumerate() {
-        if place != entry.number() as usize && has_other_code(method) {
+    for (place, method) in program.methods.as_slice().iter().enumerate() {
+        if place != entry.number() as usize && has_file_code(program, method) {
             return false;
         }
     }
@@ -118,7 +109,7 @@ fn catches_nothing(program: &Program, entry: MethodId) -> bool
 fn is_first_form(alloc: Global, program: &Program, labels: &Labels) -> Result<bool, Memory>
     ensures { IfOk result (λ yes. IsTrue yes ↔ IsFormOf program.now labels.now) }
 {
-    if !has_one_code(program.methods.as_slice(), labels.entry) {
+    if !has_one_code(program, labels.entry) {
         return Ok(false);
     }
     if !catches_nothing(program, labels.entry) {

@@ -1,6 +1,6 @@
 use Rattle.std.proofs.Common.{subst}
-use Rattle.linker.specs.BodyFaults.{IsNotImplemented}
-use Rattle.linker.specs.FirstFaults.{IsFirstIfAny}
+use Rattle.program_faults.specs.BodyFaults.{IsNotImplemented}
+use Rattle.program_faults.specs.FirstFaults.{IsFirstIfAny}
 use Rattle.linker.proofs.ToldLemmas.{told_bodiless, none_of_program}
 use Rattle.linker.proofs.check_calls.Goals as goal
 

@@ -1,6 +1,6 @@
 use Rattle.std.proofs.Common.{subst}
-use Rattle.linker.specs.MemberFaults.{LacksMember}
-use Rattle.linker.specs.FirstFaults.{IsFirstIfAny}
+use Rattle.program_faults.specs.MemberFaults.{LacksMember}
+use Rattle.program_faults.specs.FirstFaults.{IsFirstIfAny}
 use Rattle.linker.proofs.ToldLemmas.{told_member}
 use Rattle.linker.proofs.check_members.Goals as goal
 

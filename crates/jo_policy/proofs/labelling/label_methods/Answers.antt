@@ -9,7 +9,7 @@ use Rattle.jo_policy.proofs.labelling.label_methods.Goals as goal
 pub by_method-requires : goal.by_method-requires
 by_method-requires c =
     subst (λ (ms : List Method). AllByRecursion (λ (item : Item). item.0 < length ms) c.in_ok-placed.placed) (sym c.as_slice.ensures)
-    (placed_below c.args.index.now.first_class c.args.program.now c.args.labels.now c.in_ok-placed.placed c.in_ok-placed.ensures)
+    (placed_below c.args.program.now c.args.labels.now c.in_ok-placed.placed c.in_ok-placed.ensures)
 
 pub list_labels-requires : goal.list_labels-requires
 list_labels-requires c =

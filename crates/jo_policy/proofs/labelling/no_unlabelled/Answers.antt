@@ -12,6 +12,6 @@ pub returns : goal.returns
 returns c =
     let methods = c.args.program.now.methods in
     let table : c.as_slice.result.now ≡ table_of (length methods) c.args.table.now.placed = c.as_slice.ensures.value ∙ c.requires.table.labels in
-    let same : unlabelled_from c.args.first_class (table_at c.as_slice.result.now) 0 methods ≡ first_unlabelled c.args.first_class c.args.program.now c.args.table.now.placed =
-    ap (λ (t : List (Option Label)). unlabelled_from c.args.first_class (table_at t) 0 methods) table ∙ unlabelled_in c.args.first_class (length methods) c.args.table.now.placed methods refl in
+    let same : unlabelled_from c.args.program.now (table_at c.as_slice.result.now) 0 methods ≡ first_unlabelled c.args.program.now c.args.table.now.placed =
+    ap (λ (t : List (Option Label)). unlabelled_from c.args.program.now (table_at t) 0 methods) table ∙ unlabelled_in c.args.program.now (length methods) c.args.table.now.placed methods refl in
     subst (λ (read : Result (Unit {0}) PolicyFault). Gives (λ x. x) c.none_unlabelled.result read) (ap (refused UnlabelledNative) same) c.none_unlabelled.ensures

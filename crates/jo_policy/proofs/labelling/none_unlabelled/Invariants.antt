@@ -5,4 +5,4 @@ use Rattle.jo_policy.proofs.labelling.none_unlabelled.Given as goal
 -- no method before this one is an unlabelled native
 abbrev pub invariant-loop-i : goal.invariant-loop-i
 invariant-loop-i l =
-    unlabelled_from l.first_class (table_at l.labels) l.i (drop l.i l.program.methods) ≡ unlabelled_from l.first_class (table_at l.labels) 0 l.program.methods
+    unlabelled_from l.program (table_at l.labels) l.i (drop l.i l.program.methods) ≡ unlabelled_from l.program (table_at l.labels) 0 l.program.methods

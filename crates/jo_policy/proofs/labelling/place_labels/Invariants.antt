@@ -5,4 +5,4 @@ use Rattle.jo_policy.proofs.labelling.place_labels.Given as goal
 
 -- the labels before this one have their methods
 abbrev pub invariant-loop-label : goal.invariant-loop-label
-invariant-loop-label l = behind l.placed (placed_by l.index.first_class l.program (drop l.label-index l.labels)) ≡ placed_by l.index.first_class l.program l.labels
+invariant-loop-label l = behind l.placed (placed_by l.program (drop l.label-index l.labels)) ≡ placed_by l.program l.labels

@@ -5,4 +5,4 @@ use Rattle.jo_policy.proofs.run_file.place_inputs.Given as goal
 
 -- the inputs before this one have their sources
 abbrev pub invariant-loop-input : goal.invariant-loop-input
-invariant-loop-input l = behind l.placed (placed_inputs l.index.first_class l.program l.policy.labels (drop l.input-index l.inputs)) ≡ placed_inputs l.index.first_class l.program l.policy.labels l.inputs
+invariant-loop-input l = behind l.placed (placed_inputs l.program l.policy.labels (drop l.input-index l.inputs)) ≡ placed_inputs l.program l.policy.labels l.inputs

@@ -4,5 +4,5 @@ use Rattle.jo_policy.proofs.run_file.read_run.Goals as goal
 
 pub returns-in-Ok-clause-fault : goal.returns-in-Ok-clause-fault
 returns-in-Ok-clause-fault c =
-    run_fault c.args.first_class c.args.program.now c.args.policy.now.labels c.args.text.now (table_view c.in-Ok.tree) c.from_tree.result
+    run_fault c.args.program.now c.args.policy.now.labels c.args.text.now (table_view c.in-Ok.tree) c.from_tree.result
     (record { utf8 = c.in-Ok.ensures.ok.0; parsed = c.in-Ok.ensures.ok.1 }) c.from_tree.ensures

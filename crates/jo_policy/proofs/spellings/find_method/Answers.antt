@@ -6,6 +6,6 @@ use Rattle.jo_policy.proofs.spellings.find_method.Goals as goal
 
 pub returns-in_err-method-clause-number : goal.returns-in_err-method-clause-number
 returns-in_err-method-clause-number c =
-    let named : method_named c.args.index.now.first_class c.args.program.now c.args.text.now ≡ Some c.in_ok-number.number = sym (c.requires.finds c.args.text.now) ∙ sym c.in_ok-number.ensures in
+    let named : method_named c.args.program.now c.args.text.now ≡ Some c.in_ok-number.number = sym (c.requires.finds c.args.text.now) ∙ sym c.in_ok-number.ensures in
     let missing : None ≡ method_at c.args.program.now c.in_ok-number.number = c.in_err-method.ensures ∙ ap (λ n. method_at c.args.program.now n) c.of.ensures in
-    absurd (no_missing c.args.index.now.first_class c.args.program.now c.args.text.now c.in_ok-number.number named missing)
+    absurd (no_missing c.args.program.now c.args.text.now c.in_ok-number.number named missing)

@@ -5,4 +5,4 @@ use Rattle.jo_policy.proofs.spellings.index_methods.Given as goal
 
 -- the methods before this one are indexed
 abbrev pub invariant-loop-i : goal.invariant-loop-i
-invariant-loop-i l = (l.index.first_class ≡ l.first_class) × IsSoFar l.first_class l.program (entries_in l.index) l.i (drop l.i l.program.methods)
+invariant-loop-i l = IsSoFar l.program (entries_in l.index) l.i (drop l.i l.program.methods)

@@ -22,33 +22,28 @@ invariant_of-result c = record {
 pub returns-in_err-labelled-clause-labels : goal.returns-in_err-labelled-clause-labels
 returns-in_err-labelled-clause-labels c =
     let p = err_from_is_err_and c.from_residual-in_err-labelled.result c.from_residual-in_err-labelled.ensures.1 in
-    rw (p.1, p.2) (fails_same (labelled_of c.in_ok-index.index.first_class (flows c.args.order) c.args.program.now c.as_slice.result.now)
-    (labels_of c.args.first_class c.args.program.now c.args.written c.args.numbered)
-    (λ f e. labels_stop c.args.first_class c.args.program.now c.args.written c.args.numbered c.args.order f c.requires.flowing
-    (subst (λ n. labelled_of n (flows c.args.order) c.args.program.now c.args.numbered.labels ≡ Err f) c.in_ok-index.ensures.class
-    (subst (λ ls. labelled_of c.in_ok-index.index.first_class (flows c.args.order) c.args.program.now ls ≡ Err f) c.as_slice.ensures e)))
+    rw (p.1, p.2) (fails_same (labelled_of (flows c.args.order) c.args.program.now c.as_slice.result.now)
+    (labels_of c.args.program.now c.args.written c.args.numbered)
+    (λ f e. labels_stop c.args.program.now c.args.written c.args.numbered c.args.order f c.requires.flowing
+    (subst (λ ls. labelled_of (flows c.args.order) c.args.program.now ls ≡ Err f) c.as_slice.ensures e))
     c.in_err-labelled.field-0.0 c.in_err-labelled.ensures.labelled)
 
 pub returns-in_err-entry-clause-labels : goal.returns-in_err-entry-clause-labels
 returns-in_err-entry-clause-labels c =
     let p = err_from_is_err_and c.from_residual-in_err-entry.result c.from_residual-in_err-entry.ensures.1 in
-    let labelled : labelled_of c.args.first_class (flows c.args.order) c.args.program.now c.args.numbered.labels ≡ Ok c.in_ok-labelled.labelled.labelled =
-    subst (λ n. labelled_of n (flows c.args.order) c.args.program.now c.args.numbered.labels ≡ Ok c.in_ok-labelled.labelled.labelled) c.in_ok-index.ensures.class
-    (subst (λ ls. labelled_of c.in_ok-index.index.first_class (flows c.args.order) c.args.program.now ls ≡ Ok c.in_ok-labelled.labelled.labelled) c.as_slice.ensures c.in_ok-labelled.ensures.labelled) in
-    rw (p.1, p.2) (fails_same (or_fault Entry (entry_named c.in_ok-index.index.first_class c.args.program.now c.as_slice-2.result.now))
-    (labels_of c.args.first_class c.args.program.now c.args.written c.args.numbered)
-    (λ f e. entry_stops c.args.first_class c.args.program.now c.args.written c.args.numbered c.args.order c.in_ok-labelled.labelled.labelled f c.requires.flowing labelled
-    (subst (λ n. or_fault Entry (entry_named n c.args.program.now c.args.written.entry) ≡ Err f) c.in_ok-index.ensures.class
-    (subst (λ t. or_fault Entry (entry_named c.in_ok-index.index.first_class c.args.program.now t) ≡ Err f) c.as_slice-2.ensures e)))
+    let labelled : labelled_of (flows c.args.order) c.args.program.now c.args.numbered.labels ≡ Ok c.in_ok-labelled.labelled.labelled =
+    subst (λ ls. labelled_of (flows c.args.order) c.args.program.now ls ≡ Ok c.in_ok-labelled.labelled.labelled) c.as_slice.ensures c.in_ok-labelled.ensures.labelled in
+    rw (p.1, p.2) (fails_same (or_fault Entry (entry_named c.args.program.now c.as_slice-2.result.now))
+    (labels_of c.args.program.now c.args.written c.args.numbered)
+    (λ f e. entry_stops c.args.program.now c.args.written c.args.numbered c.args.order c.in_ok-labelled.labelled.labelled f c.requires.flowing labelled
+    (subst (λ t. or_fault Entry (entry_named c.args.program.now t) ≡ Err f) c.as_slice-2.ensures e))
     c.in_err-entry.field-0.0 c.in_err-entry.ensures)
 
 pub returns-clause-labels : goal.returns-clause-labels
 returns-clause-labels c =
-    let labelled : labelled_of c.args.first_class (flows c.args.order) c.args.program.now c.args.numbered.labels ≡ Ok c.in_ok-labelled.labelled.labelled =
-    subst (λ n. labelled_of n (flows c.args.order) c.args.program.now c.args.numbered.labels ≡ Ok c.in_ok-labelled.labelled.labelled) c.in_ok-index.ensures.class
-    (subst (λ ls. labelled_of c.in_ok-index.index.first_class (flows c.args.order) c.args.program.now ls ≡ Ok c.in_ok-labelled.labelled.labelled) c.as_slice.ensures c.in_ok-labelled.ensures.labelled) in
-    let entry : or_fault Entry (entry_named c.args.first_class c.args.program.now c.args.written.entry) ≡ Ok c.of.result =
-    subst (λ m. or_fault Entry (entry_named c.args.first_class c.args.program.now c.args.written.entry) ≡ Ok m) (sym c.of.ensures)
-    (subst (λ n. or_fault Entry (entry_named n c.args.program.now c.args.written.entry) ≡ Ok c.in_ok-entry.entry) c.in_ok-index.ensures.class
-    (subst (λ t. or_fault Entry (entry_named c.in_ok-index.index.first_class c.args.program.now t) ≡ Ok c.in_ok-entry.entry) c.as_slice-2.ensures c.in_ok-entry.ensures)) in
-    labels_made c.args.first_class c.args.program.now c.args.written c.args.numbered c.args.order c.in_ok-labelled.labelled.labelled c.of.result c.requires.flowing labelled entry
+    let labelled : labelled_of (flows c.args.order) c.args.program.now c.args.numbered.labels ≡ Ok c.in_ok-labelled.labelled.labelled =
+    subst (λ ls. labelled_of (flows c.args.order) c.args.program.now ls ≡ Ok c.in_ok-labelled.labelled.labelled) c.as_slice.ensures c.in_ok-labelled.ensures.labelled in
+    let entry : or_fault Entry (entry_named c.args.program.now c.args.written.entry) ≡ Ok c.of.result =
+    subst (λ m. or_fault Entry (entry_named c.args.program.now c.args.written.entry) ≡ Ok m) (sym c.of.ensures)
+    (subst (λ t. or_fault Entry (entry_named c.args.program.now t) ≡ Ok c.in_ok-entry.entry) c.as_slice-2.ensures c.in_ok-entry.ensures) in
+    labels_made c.args.program.now c.args.written c.args.numbered c.args.order c.in_ok-labelled.labelled.labelled c.of.result c.requires.flowing labelled entry

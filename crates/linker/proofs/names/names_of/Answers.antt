@@ -1,7 +1,8 @@
 use Rattle.std.proofs.Common.{◌≡◌, ◌++◌, ◌∷◌, [], true, map, take, length, Contains, refl, sym, subst, ap, ◌∙◌, below_more, rules}
 use Rattle.std.proofs.lemmas.Option.{slice_get_read}
 use Rattle.linker.specs.Linking.{this_name}
-use Rattle.linker.specs.LinkFaults.{class_names, IsTwiceDefined, IsFirst}
+use Rattle.linker.specs.LinkFaults.{class_names, IsTwiceDefined}
+use Rattle.program_faults.specs.FirstFaults.{IsFirst}
 use Rattle.linker.proofs.NameLemmas.{twice_here, once_here, names_more, none_twice}
 use Rattle.linker.proofs.names.names_of.Goals as goal
 

@@ -1,8 +1,0 @@
-use Rattle.std.proofs.Common.{◌≡◌, drop}
-use Rattle.std.specs.List.{list_any}
-use Rattle.linker.specs.BodyFaults.{is_bodiless_use}
-use Rattle.linker.proofs.bodies.some_bodiless_use.Given as goal
-
--- what is left decides
-abbrev pub invariant-loop-used : goal.invariant-loop-used
-invariant-loop-used l = list_any (is_bodiless_use l.program l.class) (drop l.used-index l.uses) ≡ list_any (is_bodiless_use l.program l.class) l.uses

@@ -1,7 +1,0 @@
-use Rattle.std.proofs.Common.{ℕ, ◌<◌}
-use Rattle.linker.specs.SuperFaults.{HasMisplacedParent}
-use Rattle.linker.proofs.supers.misplaced_parent.Given as goal
-
--- none so far
-abbrev pub invariant-loop-number : goal.invariant-loop-number
-invariant-loop-number l = (k : ℕ) → k < l.number → HasMisplacedParent l.program k → ⊥

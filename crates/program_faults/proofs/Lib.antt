@@ -1,0 +1,5 @@
+mod FirstLemmas
+mod SuperLemmas
+mod UseLemmas
+mod MemberLemmas
+mod BodyLemmas
