@@ -118,9 +118,7 @@ fn read_list<F: Files>(alloc: Global, files: &mut F, list: &[u8]) -> Result<Vec<
     let paths = match split_lines(alloc, list) {
         Ok(paths) => paths,
         Err(ListFault::NotUtf8(place)) => {
-            return Err(Stop::Faulty(Refusal::Input(InputFault::ClassList(
-                place,
-            ))));
+            return Err(Stop::Faulty(Refusal::Input(InputFault::ClassList(place))));
         }
         Err(ListFault::Memory) => return Err(Stop::Memory),
     };

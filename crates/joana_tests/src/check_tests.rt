@@ -110,7 +110,10 @@ fn levels_decide(rt: HostRuntime) -> Result<(), Fail> {
         with_policy(alloc, worked_head(), high_sink, "c")?.as_str(),
         DONE
     );
-    assert_eq!(rt; with_policy(alloc, apart, high_sink, "c")?.as_str(), REFUSED);
+    assert_eq!(rt;
+        with_policy(alloc, apart, high_sink, "c")?.as_str(),
+        REFUSED
+    );
     Ok(())
 }
 
@@ -138,10 +141,19 @@ fn other_classes_are_not_built(rt: HostRuntime) -> Result<(), Fail> {
     // an opcode outside plain code, an underflow, a local that isn't set, a return in the middle
     assert_eq!(rt; with_class(alloc, 195, 1, &[0x68])?.as_str(), NOT_BUILT);
     assert_eq!(rt; with_class(alloc, 193, 1, &[0x3b])?.as_str(), NOT_BUILT);
-    assert_eq!(rt; with_class(alloc, 192, 2, &[0x3b, 0x1b])?.as_str(), NOT_BUILT);
-    assert_eq!(rt; with_class(alloc, 193, 3, &[0xb1, 0xb1, 0xb1])?.as_str(), NOT_BUILT);
+    assert_eq!(rt;
+        with_class(alloc, 192, 2, &[0x3b, 0x1b])?.as_str(),
+        NOT_BUILT
+    );
+    assert_eq!(rt;
+        with_class(alloc, 193, 3, &[0xb1, 0xb1, 0xb1])?.as_str(),
+        NOT_BUILT
+    );
     // a name that no label spells
-    assert_eq!(rt; with_class(alloc, 48, 2, &[0xc3, 0xa9])?.as_str(), NOT_BUILT);
+    assert_eq!(rt;
+        with_class(alloc, 48, 2, &[0xc3, 0xa9])?.as_str(),
+        NOT_BUILT
+    );
     // a row of the exception table
     let row = [0, 1, 0, 0, 0, 3, 0, 0, 0, 0];
     let caught = changed(edited(alloc, 200, 2, &row)?, 176, 0x23);
@@ -159,8 +171,14 @@ fn other_classes_are_not_built(rt: HostRuntime) -> Result<(), Fail> {
 fn a_class_alone_may_not_link(rt: HostRuntime) -> Result<(), Fail> {
     let alloc = rt.alloc();
     // itself as its superclass, an abstract method that is called
-    assert_eq!(rt; with_class(alloc, 131, 2, &[0, 2])?.as_str(), "3 joana: input L3 Main\n");
-    assert_eq!(rt; with_class(alloc, 139, 2, &[4, 8])?.as_str(), "3 joana: input L5 Main\n");
+    assert_eq!(rt;
+        with_class(alloc, 131, 2, &[0, 2])?.as_str(),
+        "3 joana: input L3 Main\n"
+    );
+    assert_eq!(rt;
+        with_class(alloc, 139, 2, &[4, 8])?.as_str(),
+        "3 joana: input L5 Main\n"
+    );
     Ok(())
 }
 
@@ -211,10 +229,16 @@ fn attributes_and_other_characters_are_taken(rt: HostRuntime) -> Result<(), Fail
 fn other_policies_and_lists_are_not_built(rt: HostRuntime) -> Result<(), Fail> {
     let alloc = rt.alloc();
     let three = "levels = [\"low\", \"high\", \"top\"]\nentry = \"Main.main()V\"\n";
-    assert_eq!(rt; with_policy(alloc, three, worked_labels(), "c")?.as_str(), NOT_BUILT);
+    assert_eq!(rt;
+        with_policy(alloc, three, worked_labels(), "c")?.as_str(),
+        NOT_BUILT
+    );
     let two =
         "levels = [\"low\", \"high\"]\nflows = [[\"low\", \"high\"], [\"low\", \"low\"]]\nentry = \"Main.main()V\"\n";
-    assert_eq!(rt; with_policy(alloc, two, worked_labels(), "c")?.as_str(), NOT_BUILT);
+    assert_eq!(rt;
+        with_policy(alloc, two, worked_labels(), "c")?.as_str(),
+        NOT_BUILT
+    );
     let unknown = "levels = [\"low\", \"high\"]\nentry = \"Main.main()V\"\ncontexts = \"none\"\n";
     assert_eq!(rt;
         with_policy(alloc, unknown, worked_labels(), "c")?.as_str(),
@@ -264,9 +288,24 @@ fn other_words_are_no_command(rt: HostRuntime) -> Result<(), Fail> {
         b"joana: words\n".as_slice()
     );
     assert!(rt; matches!(with_words(alloc, &["check", "l"])?.status, Status::Words));
-    assert!(rt; matches!(with_words(alloc, &["check", "l", "p", "c"])?.status, Status::Words));
-    assert!(rt; matches!(with_words(alloc, &["Check", "l", "p"])?.status, Status::Words));
-    assert!(rt; matches!(with_words(alloc, &["check", "l", "p"])?.status, Status::Done));
+    assert!(rt;
+        matches!(
+            with_words(alloc, &["check", "l", "p", "c"])?.status,
+            Status::Words
+        )
+    );
+    assert!(rt;
+        matches!(
+            with_words(alloc, &["Check", "l", "p"])?.status,
+            Status::Words
+        )
+    );
+    assert!(rt;
+        matches!(
+            with_words(alloc, &["check", "l", "p"])?.status,
+            Status::Done
+        )
+    );
     Ok(())
 }
 

@@ -77,31 +77,64 @@ fn two_classes_are_accepted(rt: HostRuntime) -> Result<(), Fail> {
 #[test]
 fn faults_of_linking_are_told(rt: HostRuntime) -> Result<(), Fail> {
     let alloc = rt.alloc();
-    assert_eq!(rt; told_of(alloc, b"Box\nBox\n")?.as_str(), "3 joana: input L1 Box\n");
-    assert_eq!(rt; told_of(alloc, b"Needy\n")?.as_str(), "3 joana: input L2 Needy\n");
-    assert_eq!(rt; told_of(alloc, b"Main\nLoop\n")?.as_str(), "3 joana: input L3 Loop\n");
-    assert_eq!(rt; told_of(alloc, b"Init\nMain\n")?.as_str(), "3 joana: input L7 B%23x\n");
+    assert_eq!(rt;
+        told_of(alloc, b"Box\nBox\n")?.as_str(),
+        "3 joana: input L1 Box\n"
+    );
+    assert_eq!(rt;
+        told_of(alloc, b"Needy\n")?.as_str(),
+        "3 joana: input L2 Needy\n"
+    );
+    assert_eq!(rt;
+        told_of(alloc, b"Main\nLoop\n")?.as_str(),
+        "3 joana: input L3 Loop\n"
+    );
+    assert_eq!(rt;
+        told_of(alloc, b"Init\nMain\n")?.as_str(),
+        "3 joana: input L7 B%23x\n"
+    );
     Ok(())
 }
 
 #[test]
 fn the_first_kind_of_fault_is_told(rt: HostRuntime) -> Result<(), Fail> {
     let alloc = rt.alloc();
-    assert_eq!(rt; told_of(alloc, b"Init\nLoop\n")?.as_str(), "3 joana: input L3 Loop\n");
-    assert_eq!(rt; told_of(alloc, b"Loop\nNeedy\n")?.as_str(), "3 joana: input L2 Needy\n");
-    assert_eq!(rt; told_of(alloc, b"Needy\nMain\nMain\n")?.as_str(), "3 joana: input L1 Main\n");
+    assert_eq!(rt;
+        told_of(alloc, b"Init\nLoop\n")?.as_str(),
+        "3 joana: input L3 Loop\n"
+    );
+    assert_eq!(rt;
+        told_of(alloc, b"Loop\nNeedy\n")?.as_str(),
+        "3 joana: input L2 Needy\n"
+    );
+    assert_eq!(rt;
+        told_of(alloc, b"Needy\nMain\nMain\n")?.as_str(),
+        "3 joana: input L1 Main\n"
+    );
     // a file that is no class comes before them
-    assert_eq!(rt; told_of(alloc, b"Loop\np\n")?.as_str(), "3 joana: input C2 1 0\n");
+    assert_eq!(rt;
+        told_of(alloc, b"Loop\np\n")?.as_str(),
+        "3 joana: input C2 1 0\n"
+    );
     Ok(())
 }
 
 #[test]
 fn a_list_is_text(rt: HostRuntime) -> Result<(), Fail> {
     let alloc = rt.alloc();
-    assert_eq!(rt; told_of(alloc, b"\xff\n")?.as_str(), "3 joana: input B1 0\n");
-    assert_eq!(rt; told_of(alloc, b"Main\n\xc3(")?.as_str(), "3 joana: input B1 6\n");
+    assert_eq!(rt;
+        told_of(alloc, b"\xff\n")?.as_str(),
+        "3 joana: input B1 0\n"
+    );
+    assert_eq!(rt;
+        told_of(alloc, b"Main\n\xc3(")?.as_str(),
+        "3 joana: input B1 6\n"
+    );
     // a list without a path is one, but makes no program with the entry
-    assert_eq!(rt; told_of(alloc, b"\n")?.as_str(), "3 joana: input NotBuilt\n");
+    assert_eq!(rt;
+        told_of(alloc, b"\n")?.as_str(),
+        "3 joana: input NotBuilt\n"
+    );
     Ok(())
 }
 
@@ -109,13 +142,22 @@ fn a_list_is_text(rt: HostRuntime) -> Result<(), Fail> {
 fn a_list_may_have_512_paths(rt: HostRuntime) -> Result<(), Fail> {
     let alloc = rt.alloc();
     let most = repeated(alloc, b"Box\n", 512)?;
-    assert_eq!(rt; told_of(alloc, most.as_slice())?.as_str(), "3 joana: input L1 Box\n");
+    assert_eq!(rt;
+        told_of(alloc, most.as_slice())?.as_str(),
+        "3 joana: input L1 Box\n"
+    );
     // one more, and the files aren't looked for
     let more = repeated(alloc, b"gone\n", 513)?;
-    assert_eq!(rt; told_of(alloc, more.as_slice())?.as_str(), "4 joana: limit M1\n");
+    assert_eq!(rt;
+        told_of(alloc, more.as_slice())?.as_str(),
+        "4 joana: limit M1\n"
+    );
     // a list that is no text has no paths
     let mut no_text = more;
     no_text.push(0xff)?;
-    assert_eq!(rt; told_of(alloc, no_text.as_slice())?.as_str(), "3 joana: input B1 2565\n");
+    assert_eq!(rt;
+        told_of(alloc, no_text.as_slice())?.as_str(),
+        "3 joana: input B1 2565\n"
+    );
     Ok(())
 }

@@ -186,7 +186,12 @@ fn a_policy_with_a_fault_is_none(rt: HostRuntime) -> Result<(), Fail> {
 fn methods_and_nodes_are_spelled(rt: HostRuntime) -> Result<(), Fail> {
     let alloc = rt.alloc();
     let program = program(alloc)?.ok_or("a class")?;
-    for (number, wanted) in [(0, "java/lang/Object.<init>()V"), (49, "Main.show(I)V"), (50, "Main.main()V"), (60, "")] {
+    for (number, wanted) in [
+        (0, "java/lang/Object.<init>()V"),
+        (49, "Main.show(I)V"),
+        (50, "Main.main()V"),
+        (60, ""),
+    ] {
         let mut text = Vec::new(alloc);
         push_method(&mut text, &program, Id::of(number))?;
         assert_eq!(rt; text.as_slice(), wanted.as_bytes(), "method {number}");

@@ -64,11 +64,7 @@ fn no_memory() -> LinkCause
 }
 
 /// Whether each class is there that one of them needs.
-fn check_needs(
-    alloc: Global,
-    names: &ClassNames,
-    classes: &[ClassFile],
-) -> Result<(), LinkCause>
+fn check_needs(alloc: Global, names: &ClassNames, classes: &[ClassFile]) -> Result<(), LinkCause>
     requires few { length classes.now < 2 ^ 32 }
     requires names { names.now ≡ class_names classes.now }
     requires once { (k : ℕ) → IsTwiceDefined names.now k → ⊥ }
