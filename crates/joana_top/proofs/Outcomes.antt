@@ -12,7 +12,7 @@ use Rattle.joana_base.specs.declared.status.LinkKind.{LinkKind}
 use Rattle.jo_prog.specs.declared.labels.Labels.{Labels}
 use Rattle.low_run.proofs.Verdicts.{clean_graph_secure}
 use Rattle.joana_base.specs.Files.{Held, ProgramNames, ProgramFiles, AreProgramFiles, IsToldAs, classes_of, AreReadable, of_classes, HaveClasses}
-use Rattle.joana_base.specs.Reading.{FilesChange, in_bytes, AfterReads, AreClasses, IsUnlessMemory}
+use Rattle.joana_base.specs.Reading.{FilesChange, in_bytes, AfterReads, ReadsProgram, AreClasses, IsUnlessMemory}
 use Rattle.joana_base.specs.declared.reading.ProgramFiles as memory
 use Rattle.joana_base.proofs.ReadFiles.{few_files}
 use Rattle.joana_base.specs.declared.status.Status.{Status}
@@ -43,6 +43,12 @@ check_outcome held names files (Ok answer) are said = (files, are, said)
 check_outcome held names files (Err (Faulty refusal)) are said = (files, are, said)
 check_outcome held names files (Err (Unread unread)) are said = tt
 check_outcome held names files (Err Memory) are said = tt
+
+-- where a read stops, or nothing is read for what refuses the files
+pub read_stopped : (held : Held) (names : ProgramNames) (stop : Stop) → ReadsProgram held names (Err stop) → IsCheckOutcome held names (Err stop)
+read_stopped held names (Faulty refusal) read = (read.0, read.1, in_files refusal read.2)
+read_stopped held names (Unread unread) read = tt
+read_stopped held names Memory read = tt
 
 -- one file, then an outcome
 pub file_outcome : (IsAnswer : List ℕ → Status → List ℕ → Type 0) (IsRefusal : List ℕ → Refusal → Type 0) (held : Held) (name bytes : List ℕ) (result : Result Answer Stop)
