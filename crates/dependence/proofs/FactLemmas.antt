@@ -83,8 +83,8 @@ module _ (program : Program) (P : AFact → Type 0) (i : InstKey (List ℕ)) whe
         mapped P (λ Q. PlaceHolds program Q H i pc v o) (λ Q. Raises program Q H i pc cause) (at_place v o holds) (λ Q r. failing_cast v o type stands top r names fails)
     raised cause (wrong_element v w array value stands at_array holds_array at_value holds_value none) =
         mapped P (λ Q. PlaceHolds program Q H i pc v array × PlaceHolds program Q H i pc w value) (λ Q. Raises program Q H i pc cause)
-          (both P (λ Q. PlaceHolds program Q H i pc v array) (λ Q. PlaceHolds program Q H i pc w value) (at_place v array holds_array) (at_place w value holds_value))
-          (λ Q r. wrong_element v w array value stands at_array r.0 at_value r.1 none)
+        (both P (λ Q. PlaceHolds program Q H i pc v array) (λ Q. PlaceHolds program Q H i pc w value) (at_place v array holds_array) (at_place w value holds_value))
+        (λ Q r. wrong_element v w array value stands at_array r.0 at_value r.1 none)
     raised cause (second_start v o call stands base holds starts) =
         mapped P (λ Q. PlaceHolds program Q H i pc v o) (λ Q. Raises program Q H i pc cause) (at_place v o holds) (λ Q r. second_start v o call stands base r starts)
     raised cause (missing_interface v o call stands base holds fails) =
@@ -102,8 +102,8 @@ module _ (P : AFact → Type 0) where
   calls_on_path i j (stays _) = always P (λ Q. Path (FactRules.CallsInThread Q) i i) (λ Q. stays i)
   calls_on_path i j (goes _ k _ step rest) =
       mapped P (λ Q. FactRules.CallsInThread Q i k × Path (FactRules.CallsInThread Q) k j) (λ Q. Path (FactRules.CallsInThread Q) i j)
-        (both P (λ Q. FactRules.CallsInThread Q i k) (λ Q. Path (FactRules.CallsInThread Q) k j) (in_thread i k step) (calls_on_path k j rest))
-        (λ Q r. goes i k j r.0 r.1)
+      (both P (λ Q. FactRules.CallsInThread Q i k) (λ Q. Path (FactRules.CallsInThread Q) k j) (in_thread i k step) (calls_on_path k j rest))
+      (λ Q r. goes i k j r.0 r.1)
 
 -- ---- the rules
 
@@ -207,7 +207,7 @@ module _ (program : Program) (policy : ContextPolicy) (H : ℕ → ℕ → ℕ �
   last_follows fact (x ∷ xs) (FactRules.more _ _ rule rest) c = elim (head_or_behind x xs fact c) [
     | inl e ↦
         subst (λ f. FactRules.ByRule program policy H entry CanDerive f) e
-          (rule_more (Contains xs) CanDerive x (λ f at. record { facts = xs; derivation = rest; there = at }) rule)
+        (rule_more (Contains xs) CanDerive x (λ f at. record { facts = xs; derivation = rest; there = at }) rule)
     | inr at ↦ last_follows fact xs rest at
   ]
 

@@ -1,16 +1,15 @@
 -- What a descriptor spells is what is read of it.
-use Rattle.std.proofs.Common.{◌≡◌, ℕ, zero, suc, ◌+◌, ◌<◌, ◌≤◌, Bool, true, false, List, [], ◌∷◌, ◌++◌, length, Option, Some, None, refl, sym, ◌∙◌, ap, subst, replicate, append_assoc, append-nil, arith, length-append}
-use Rattle.std.specs.Prelude.{option_map, option_and_then, IfSome, codes, ◌==◌, cond, if◌then◌else◌}
+use Rattle.std.proofs.Common.{◌≡◌, ℕ, zero, suc, ◌+◌, ◌<◌, ◌≤◌, Bool, true, false, List, [], ◌∷◌, ◌++◌, length, Option, Some, None, refl, sym, ◌∙◌, ap, replicate, append_assoc, append-nil, arith}
+use Rattle.std.specs.Prelude.{option_map, option_and_then, IfSome, codes, cond}
 use Rattle.std.specs.List.{flat_map, AllByRecursion}
 use Rattle.std.specs.Option.{option_or}
 use Rattle.std.specs.Str.{bytes_eq}
 use Rattle.std.proofs.lemmas.Slice.Eq.{bytes_eq-Decides}
-use Rattle.std.proofs.lemmas.Option.{same_Some}
 use Rattle.jo_text.specs.declared.descriptors.FieldDesc.{FieldDesc}
 use Rattle.jo_text.specs.declared.descriptors.MethodDesc.{MethodDesc}
 use Rattle.jo_text.specs.declared.descriptors.Base.{Base}
 use Rattle.jo_text.specs.declared.descriptors.Base.TheVariants.{Byte, Char, Double, Float, Int, Long, Short, Boolean, Class}
-use Rattle.jo_text.specs.Descriptors.{base_text, field_text, result_text, method_text, IsType, IsResult, SpellsField, SpellsMethod, IsFieldDesc, IsMethodDesc}
+use Rattle.jo_text.specs.Descriptors.{base_text, field_text, result_text, IsType, IsResult, SpellsField, SpellsMethod, IsFieldDesc, IsMethodDesc}
 use Rattle.jo_text.specs.Scan.{after_byte, read_field}
 use Rattle.jo_text.proofs.DescriptorFields.{field_again, field_taken, byte_taken, byte_again}
 use Rattle.jo_text.proofs.DescriptorMethods.{field_shorter}
@@ -18,7 +17,7 @@ use Rattle.jo_prog.specs.MethodTypes.{with_param, params_from, whole, field_desc
 
 -- ---- fields
 
-field_whole : (desc : FieldDesc) (bytes : List ℕ) → SpellsField desc bytes → field_desc_in bytes ≡ Some desc
+pub field_whole : (desc : FieldDesc) (bytes : List ℕ) → SpellsField desc bytes → field_desc_in bytes ≡ Some desc
 field_whole desc bytes h =
     let read : read_field bytes ≡ Some (desc, []) = ap read_field (h.0 ∙ sym (append-nil (field_text desc))) ∙ field_again desc [] h.1 in
     ap (option_and_then whole) read

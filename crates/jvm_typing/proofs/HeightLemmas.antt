@@ -1,17 +1,16 @@
 -- The heights of a method are those of its code.
-use Rattle.std.proofs.Common.{◌≡◌, ℕ, List, [], length, Option, Some, None, refl, sym, ◌∙◌, ap, subst, get_or}
+use Rattle.std.proofs.Common.{◌≡◌, ℕ, List, [], Option, Some, None, sym, ◌∙◌, ap, subst}
 use Rattle.std.specs.Prelude.{◌↔◌}
 use Rattle.jo_prog.specs.declared.program.Program.{Program}
 use Rattle.jo_prog.specs.declared.program.Method.{Method}
-use Rattle.jo_prog.specs.declared.program.Code.{Code}
 use Rattle.jo_prog.specs.Program.{method_at}
 use Rattle.jo_prog.specs.TypingPaths.{Typable, IsTypable, HasHeightAt}
 use Rattle.jvm_typing.specs.Searches.{height_at, AreHeights}
 
-some_same : {A : Type 0} (a b : A) → Some a ≡ Some b → a ≡ b
+pub some_same : {A : Type 0} (a b : A) → Some a ≡ Some b → a ≡ b
 some_same a b e = ap (λ (o : Option _). elim o [ Some x ↦ x | None ↦ a ]) e
 
-one_typable : (program : Program) (m : ℕ) (s t : Typable) → IsTypable program m s → IsTypable program m t → s ≡ t
+pub one_typable : (program : Program) (m : ℕ) (s t : Typable) → IsTypable program m s → IsTypable program m t → s ≡ t
 one_typable program m s t hs ht =
     let numbers : s.number ≡ t.number = hs.0 ∙ sym ht.0 in
     let methods : s.method ≡ t.method = some_same s.method t.method (sym hs.1 ∙ ht.1) in

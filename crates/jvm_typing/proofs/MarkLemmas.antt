@@ -1,18 +1,14 @@
 -- Heights that are given to pcs are those of a visit.
-use Rattle.std.proofs.Common.{◌≡◌, ◌⊎◌, ℕ, zero, suc, ◌+◌, ◌-◌, ◌<◌, ◌≤◌, ◌≢◌, Bool, true, false, ◌||◌, not, cond, ltb, List, [], ◌∷◌, ◌++◌, length, map, get_or, Option, Some, None, refl, sym, ◌∙◌, ap, subst, inl, inr, arith, length-append}
-use Rattle.std.specs.Prelude.{ℤ, pos, ◌↔◌, slice_get}
-use Rattle.std.specs.List.{Contains, list_any}
-use Rattle.std.specs.List.Sorted.{IsStrictlyIncreasing}
+use Rattle.std.proofs.Common.{◌≡◌, ◌⊎◌, ℕ, zero, suc, ◌+◌, ◌<◌, ◌≤◌, ◌≢◌, Bool, true, false, cond, ltb, List, [], ◌∷◌, ◌++◌, length, get_or, Option, Some, None, refl, sym, ◌∙◌, ap, subst, inl, inr, arith, length-append}
+use Rattle.std.specs.Prelude.{slice_get}
+use Rattle.std.specs.List.{Contains}
 use Rattle.std.proofs.Math.ListN.{set}
 use Rattle.std.proofs.lemmas.Bool.{ltb-true, ltb-false}
 use Rattle.std.proofs.lemmas.List.{length-set, get_or-set_same, get_or-set_other, get_or_append_left, get_or-append-add}
-use Rattle.jo_prog.specs.declared.program.Program.{Program}
 use Rattle.jo_prog.specs.declared.program.Row.{Row}
-use Rattle.jo_prog.specs.declared.program.Code.{Code}
-use Rattle.jo_prog.specs.InsnTyping.{covers, is_inside}
-use Rattle.jo_prog.specs.TypingPaths.{Typable, effect_at, successors_at, height_after, ends_at, IsHandler, TakesStep}
-use Rattle.jvm_typing.specs.Searches.{height_at, height_behind, Gets, HasSome, Visits}
-use Rattle.jvm_typing.specs.Marks.{Marks, holds_none, is_unknown, marked, all_marked, handler_marked, handlers_marked, unknown}
+use Rattle.jo_prog.specs.InsnTyping.{covers}
+use Rattle.jvm_typing.specs.Searches.{height_at, HasSome}
+use Rattle.jvm_typing.specs.Marks.{Marks, is_unknown, marked, all_marked, handler_marked, handlers_marked, unknown}
 
 -- ---- lists
 

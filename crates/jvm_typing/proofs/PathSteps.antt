@@ -1,11 +1,11 @@
 -- Typing paths, step by step.
-use Rattle.std.proofs.Common.{◌≡◌, ◌⊎◌, ℕ, zero, suc, ◌+◌, ◌-◌, ◌<◌, ◌≤◌, Bool, true, false, ltb, List, [], ◌∷◌, length, map, drop, refl, sym, ◌∙◌, ap, subst, inl, inr, arith, length-append, length-drop, add-one}
+use Rattle.std.proofs.Common.{◌≡◌, ℕ, zero, suc, ◌+◌, ◌-◌, ◌≤◌, Bool, true, false, ltb, List, [], ◌∷◌, length, map, drop, refl, sym, ◌∙◌, ap, subst, inl, inr, arith, length-append, length-drop}
 use Rattle.std.proofs.lemmas.List.{length-map}
 use Rattle.std.proofs.lemmas.Bool.{ltb-true, ltb-false}
 use Rattle.jo_prog.specs.declared.program.Program.{Program}
 use Rattle.jo_prog.specs.Typing.{Shape}
 use Rattle.jo_prog.specs.Shapes.{Effect, after, kind_from}
-use Rattle.jo_prog.specs.TypingPaths.{Typable, Step, arrives_at, height_of, height_after, IsBefore, shorter, by_pcs, by_rows, IsFirst, GoesOn, Prolongs, PathWithin, TypingPath}
+use Rattle.jo_prog.specs.TypingPaths.{Typable, Step, arrives_at, height_after, IsBefore, shorter, by_pcs, by_rows, IsFirst, Prolongs, PathWithin, TypingPath}
 use Rattle.jvm_typing.proofs.PathOrder.{same_length}
 
 pub heights_after : (program : Program) (effect : Effect) (s : Shape) → length (after program effect s).stack ≡ height_after effect (length s.stack)

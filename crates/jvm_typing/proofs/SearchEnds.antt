@@ -1,12 +1,11 @@
 -- How a search begins, and what it has found at its end.
-use Rattle.std.proofs.Common.{◌≡◌, ◌⊎◌, ℕ, zero, suc, ◌+◌, ◌-◌, ◌<◌, ◌≤◌, Bool, true, false, ltb, List, [], ◌∷◌, ◌++◌, length, get_or, set, replicate, Option, Some, None, refl, sym, ◌∙◌, ap, subst, inl, inr, arith}
-use Rattle.std.proofs.lemmas.Bool.{ltb-true, ltb-false}
+use Rattle.std.proofs.Common.{◌≡◌, ℕ, zero, suc, ◌<◌, ◌≤◌, List, [], ◌∷◌, length, get_or, Option, Some, None, refl, sym, ◌∙◌, ap, inl, inr, arith}
 use Rattle.jo_prog.specs.declared.program.Program.{Program}
-use Rattle.jo_prog.specs.TypingPaths.{Typable, Step, arrives_at, height_of, ends_at, TakesStep, IsFirst, TypingPath}
-use Rattle.jvm_typing.specs.Searches.{height_at, HasSome}
+use Rattle.jo_prog.specs.TypingPaths.{Typable, Step, arrives_at, height_of, IsFirst, TypingPath}
+use Rattle.jvm_typing.specs.Searches.{height_at}
 use Rattle.jvm_typing.proofs.PathSteps.{begins}
-use Rattle.jvm_typing.proofs.PathOrder.{IsStrictlyBefore, by_length, SamePcs, IsNotAfter}
-use Rattle.jvm_typing.proofs.SearchState.{HasParent, IsQueued, Searches}
+use Rattle.jvm_typing.proofs.PathOrder.{by_length, IsNotAfter}
+use Rattle.jvm_typing.proofs.SearchState.{IsQueued, Searches}
 use Rattle.jvm_typing.proofs.SearchPaths.{Stands, known, next, far, way_first, first_height, stands}
 
 -- no other path is before the empty one

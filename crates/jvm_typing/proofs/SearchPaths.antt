@@ -1,15 +1,13 @@
 -- What a search knows of all typing paths.
-use Rattle.std.proofs.Common.{◌≡◌, ◌⊎◌, ℕ, zero, suc, ◌+◌, ◌-◌, ◌<◌, ◌≤◌, Bool, true, false, ltb, List, [], ◌∷◌, ◌++◌, length, map, get_or, Option, Some, None, refl, sym, ◌∙◌, ap, subst, inl, inr, arith}
-use Rattle.std.specs.Prelude.{is_some, slice_get}
+use Rattle.std.proofs.Common.{◌≡◌, ℕ, suc, ◌+◌, ◌<◌, ◌≤◌, Bool, true, false, ltb, List, [], ◌∷◌, length, get_or, Option, Some, None, refl, sym, ◌∙◌, ap, subst, inl, inr, arith}
+use Rattle.std.specs.Prelude.{is_some}
 use Rattle.std.proofs.lemmas.Bool.{ltb-true, ltb-false}
 use Rattle.jo_prog.specs.declared.program.Program.{Program}
-use Rattle.jo_prog.specs.declared.program.Row.{Row}
-use Rattle.jo_prog.specs.Typing.{Shape}
-use Rattle.jo_prog.specs.TypingPaths.{Typable, Step, arrives_at, shape_of, stepped, row_taken, height_of, effect_at, height_after, ends_at, IsHandler, TakesStep, pcs_of, handlers_of, to_handler, IsBefore, IsFirst, GoesOn, Prolongs, TypingPath}
-use Rattle.jvm_typing.specs.Searches.{height_at, height_behind, HasSome}
-use Rattle.jvm_typing.proofs.PathOrder.{same_length, IsStrictlyBefore, by_length, by_less, SamePcs, IsNotAfter, SameWay, not_before, same_way, strictly_along, strictly_not_after, not_after_along, strictly_prolonged, same_prolonged}
-use Rattle.jvm_typing.proofs.PathSteps.{heights_after, onward, back}
-use Rattle.jvm_typing.proofs.SearchState.{HasParent, IsQueued, Searches}
+use Rattle.jo_prog.specs.TypingPaths.{Typable, Step, arrives_at, shape_of, stepped, height_of, effect_at, ends_at, TakesStep, pcs_of, IsFirst, TypingPath}
+use Rattle.jvm_typing.specs.Searches.{height_behind}
+use Rattle.jvm_typing.proofs.PathOrder.{same_length, by_length, by_less, IsNotAfter, SameWay, not_before, same_way}
+use Rattle.jvm_typing.proofs.PathSteps.{heights_after, back}
+use Rattle.jvm_typing.proofs.SearchState.{Searches}
 
 -- ---- heights go by pcs and by where a handler is taken
 

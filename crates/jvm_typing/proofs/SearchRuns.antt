@@ -1,11 +1,11 @@
 -- A search goes on while pcs of its queue aren't done.
-use Rattle.std.proofs.Common.{◌≡◌, ◌⊎◌, ℕ, zero, suc, ◌+◌, ◌<◌, ◌≤◌, ◌≢◌, Bool, true, false, ltb, List, [], ◌∷◌, ◌++◌, length, get_or, set, replicate, Option, Some, None, refl, sym, ◌∙◌, ap, subst, inl, inr, arith, append-nil}
+use Rattle.std.proofs.Common.{◌≡◌, ℕ, zero, suc, ◌+◌, ◌<◌, ◌≤◌, ◌≢◌, Bool, true, false, ltb, List, [], ◌∷◌, ◌++◌, length, get_or, set, replicate, Option, Some, None, refl, sym, ◌∙◌, ap, subst, inl, inr, arith, append-nil}
 use Rattle.std.proofs.lemmas.Bool.{ltb-true, ltb-false}
-use Rattle.std.proofs.lemmas.List.{length-replicate, length-set, get_or-set_same, get_or-set_other, get_or-replicate, get_or_past}
+use Rattle.std.proofs.lemmas.List.{length-replicate, get_or-set_same, get_or-set_other, get_or-replicate, get_or_past}
 use Rattle.jo_prog.specs.declared.program.Program.{Program}
 use Rattle.jo_prog.specs.TypingPaths.{Typable}
-use Rattle.jvm_typing.specs.Searches.{height_at, HasSome, Visits, Rests, VisitsOrRests, VisitsAt, Advances, AreHeights}
-use Rattle.jvm_typing.proofs.SearchState.{IsQueued, Searches}
+use Rattle.jvm_typing.specs.Searches.{height_at, VisitsOrRests, VisitsAt, Advances, AreHeights}
+use Rattle.jvm_typing.proofs.SearchState.{Searches}
 use Rattle.jvm_typing.proofs.SearchSteps.{visited, rested}
 use Rattle.jvm_typing.proofs.SearchEnds.{started, reached, height_is_first, first_has_height}
 

@@ -1,9 +1,9 @@
 -- What a breadth-first search over typing paths knows when so many pcs of its queue are done.
-use Rattle.std.proofs.Common.{◌≡◌, ◌⊎◌, ℕ, suc, ◌+◌, ◌-◌, ◌<◌, ◌≤◌, Bool, true, false, ltb, List, [], ◌∷◌, ◌++◌, length, get_or, Option, Some, None, refl, sym, ◌∙◌, ap, subst, inl, inr, arith}
+use Rattle.std.proofs.Common.{◌≡◌, ◌⊎◌, ℕ, ◌<◌, false, List, [], ◌∷◌, length, get_or, Option, Some}
 use Rattle.jo_prog.specs.declared.program.Program.{Program}
-use Rattle.jo_prog.specs.TypingPaths.{Typable, Step, arrives_at, height_of, ends_at, TakesStep, IsBefore, IsFirst, GoesOn, Prolongs, TypingPath}
-use Rattle.jvm_typing.specs.Searches.{height_at, height_behind, HasSome}
-use Rattle.jvm_typing.proofs.PathOrder.{IsStrictlyBefore, SamePcs, IsNotAfter}
+use Rattle.jo_prog.specs.TypingPaths.{Typable, Step, arrives_at, height_of, ends_at, TakesStep, TypingPath}
+use Rattle.jvm_typing.specs.Searches.{height_at}
+use Rattle.jvm_typing.proofs.PathOrder.{IsStrictlyBefore, IsNotAfter}
 
 -- the path to a queued pc goes on from one that is done
 pub record HasParent (way : ℕ → List Step) (done k : ℕ) : Type 0 where

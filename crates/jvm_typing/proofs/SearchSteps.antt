@@ -1,16 +1,15 @@
 -- One step of a search.
 use Rattle.std.proofs.Common.{◌≡◌, ◌⊎◌, ℕ, zero, suc, ◌+◌, ◌-◌, ◌<◌, ◌≤◌, Bool, true, false, ltb, List, [], ◌∷◌, ◌++◌, length, get_or, Option, Some, None, refl, sym, ◌∙◌, ap, subst, inl, inr, arith, length-append}
 use Rattle.std.specs.Prelude.{is_some}
-use Rattle.std.specs.List.{Contains}
 use Rattle.std.specs.List.Sorted.{IsStrictlyIncreasing}
 use Rattle.std.proofs.lemmas.Bool.{ltb-true, ltb-false}
 use Rattle.std.proofs.lemmas.Grind.{get_or_default_zero}
 use Rattle.std.proofs.lemmas.List.{get_or_append_left, get_or-append-add}
 use Rattle.std.proofs.lemmas.List.Elements.{Contains-get_or}
 use Rattle.jo_prog.specs.declared.program.Program.{Program}
-use Rattle.jo_prog.specs.TypingPaths.{Typable, Step, arrives_at, height_of, ends_at, TakesStep, to_handler, IsPlainAlone, IsFirst, GoesOn, Prolongs, TypingPath}
-use Rattle.jvm_typing.specs.Searches.{height_at, height_behind, Gets, HasSome, Visits, Rests}
-use Rattle.jvm_typing.proofs.PathOrder.{IsStrictlyBefore, by_length, by_less, SamePcs, IsNotAfter, strictly_not_after, strictly_prolonged, same_prolonged}
+use Rattle.jo_prog.specs.TypingPaths.{Typable, Step, arrives_at, height_of, ends_at, TakesStep, IsPlainAlone, GoesOn, TypingPath}
+use Rattle.jvm_typing.specs.Searches.{height_at, height_behind, HasSome, Visits}
+use Rattle.jvm_typing.proofs.PathOrder.{IsStrictlyBefore, by_length, by_less, IsNotAfter, strictly_not_after, strictly_prolonged, same_prolonged}
 use Rattle.jvm_typing.proofs.PathSteps.{onward}
 use Rattle.jvm_typing.proofs.SearchState.{HasParent, IsQueued, Searches}
 use Rattle.jvm_typing.proofs.SearchPaths.{height_stepped, Stands, known, next, far, not_after_length, way_first, stands}

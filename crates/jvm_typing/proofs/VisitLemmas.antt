@@ -1,5 +1,5 @@
 -- What a visit does, by its marks.
-use Rattle.std.proofs.Common.{◌≡◌, ◌⊎◌, ℕ, zero, suc, ◌+◌, ◌-◌, ◌<◌, ◌≤◌, Bool, true, false, eqb, ◌||◌, ◌&&◌, not, cond, List, [], ◌∷◌, ◌++◌, length, map, get_or, Option, Some, None, refl, sym, ◌∙◌, ap, subst, inl, inr, arith, nat_lt}
+use Rattle.std.proofs.Common.{◌≡◌, ◌⊎◌, ℕ, zero, suc, ◌+◌, ◌<◌, ◌≤◌, Bool, true, false, eqb, ◌||◌, ◌&&◌, not, cond, List, [], ◌∷◌, length, map, Option, Some, None, refl, sym, ◌∙◌, ap, subst, inl, inr, arith, nat_lt}
 use Rattle.std.specs.Prelude.{ℤ, pos, slice_get, is_some}
 use Rattle.std.specs.List.{Contains, list_any, dedup, dedup_from}
 use Rattle.std.specs.Ordering.{nat_cmp}
@@ -12,13 +12,13 @@ use Rattle.jo_prog.specs.declared.program.Program.{Program}
 use Rattle.jo_prog.specs.declared.program.Row.{Row}
 use Rattle.jo_prog.specs.declared.program.Code.{Code}
 use Rattle.jo_prog.specs.InsnTyping.{covers, is_inside, insn_at}
-use Rattle.jo_prog.specs.TypingPaths.{Typable, effect_at, successors_at, height_after, underflows, overflows, ends_at, falls_off, leads_outside, handler_outside, IsHandler, TakesStep}
+use Rattle.jo_prog.specs.TypingPaths.{Typable, effect_at, successors_at, height_after, underflows, overflows, ends_at, falls_off, leads_outside, handler_outside, TakesStep}
 use Rattle.jvm_typing.specs.declared.spots.Onward.{Onward}
 use Rattle.jvm_typing.specs.Spots.{GoesOnward}
-use Rattle.jvm_typing.specs.Searches.{height_at, height_behind, Gets, HasSome, Visits, Rests, VisitsOrRests}
+use Rattle.jvm_typing.specs.Searches.{height_at, Gets, HasSome, Visits, VisitsOrRests}
 use Rattle.jvm_typing.specs.Marks.{Marks, all_marked, handlers_marked, unknown}
 use Rattle.jvm_typing.specs.Spreads.{spread_marks, IsSpread}
-use Rattle.jvm_typing.proofs.MarkLemmas.{Grown, Among, AmongRows, all_grown, all_known, FromRow, handlers_grown, handlers_known}
+use Rattle.jvm_typing.proofs.MarkLemmas.{Grown, Among, AmongRows, all_grown, all_known, handlers_grown, handlers_known}
 
 or_false : (a b : Bool) → (a || b) ≡ false → (a ≡ false) × (b ≡ false)
 or_false true b e = absurd (cc)

@@ -4,3 +4,13 @@ pub mod Subjects
 pub mod Marks
 pub mod Spots
 pub mod Spreads
+pub mod Adds
+pub mod Moves
+pub mod FirstFaults
+pub mod HeightFaults
+pub mod Kinds
+pub mod Forms
+pub mod Effects
+pub mod KindPasses
+pub mod Sources
+pub mod KindFaults

@@ -1,5 +1,5 @@
 -- How heights are found, breadth first: what it does at one pc, and what is known of the pcs that were found (this project's own).
-use Rattle.std.specs.Prelude.{◌≡◌, ◌⊎◌, ℕ, ◌+◌, ◌<◌, true, false, List, [], ◌∷◌, ◌++◌, length, Contains, Option, Some, None, slice_index, slice_index_or}
+use Rattle.std.specs.Prelude.{◌≡◌, ◌⊎◌, ℕ, true, false, List, [], Contains, Option, Some, None, slice_index_or}
 use Rattle.std.specs.List.Sorted.{IsStrictlyIncreasing}
 use Rattle.jo_prog.specs.declared.program.Program.{Program}
 use Rattle.jo_prog.specs.TypingPaths.{Typable, Step, arrives_at, height_of, effect_at, height_after, ends_at, TakesStep, IsFirst, TypingPath}

@@ -1,15 +1,15 @@
 -- What of an instruction's effect decides about heights and locals (this project's own).
-use Rattle.std.specs.Prelude.{ℕ, ◌+◌, ◌-◌, length, Option, option_map}
-use Rattle.std.specs.Option.{option_or}
+use Rattle.std.specs.Prelude.{ℕ, ◌+◌, ◌-◌, length, option_map}
 use Rattle.jo_prog.specs.Shapes.{Need, Origin, Effect}
 use Rattle.jvm_typing.specs.declared.sizes.Size.{Size}
 
--- the local that it reads or writes
-abbrev pub local_of : Effect → Option ℕ
-local_of effect = option_or (option_map (λ (r : ℕ × Need). r.0) effect.reads) (option_map (λ (w : ℕ × Origin). w.0) effect.writes)
-
 abbrev pub size_of : Effect → Size
-size_of effect = record { pops = length effect.pops; pushes = length effect.pushes; local = local_of effect }
+size_of effect = record {
+  pops = length effect.pops;
+  pushes = length effect.pushes;
+  reads = option_map (λ (r : ℕ × Need). r.0) effect.reads;
+  writes = option_map (λ (w : ℕ × Origin). w.0) effect.writes;
+}
 
 abbrev pub grown : Size → ℕ → ℕ
 grown size height = size.pushes + (height - size.pops)

@@ -1,5 +1,5 @@
 -- What stands at a pc, as the code has it (this project's own).
-use Rattle.std.specs.Prelude.{◌≡◌, ℕ, ◌<◌, ◌^◌, true, false, not, ◌||◌, ◌&&◌, ◌==◌, nat_lt, Bool, ℤ, pos, List, map, length, Option, Some, None, is_some}
+use Rattle.std.specs.Prelude.{◌≡◌, ℕ, true, false, not, ◌||◌, ◌&&◌, ◌==◌, nat_lt, Bool, ℤ, pos, List, map, Option, Some, None, is_some}
 use Rattle.std.specs.List.{list_any}
 use Rattle.jo_prog.specs.declared.program.Program.{Program}
 use Rattle.jo_prog.specs.declared.program.Code.{Code}

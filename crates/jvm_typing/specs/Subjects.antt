@@ -1,5 +1,5 @@
 -- A method with its code, as the code has it.
-use Rattle.std.specs.Prelude.{◌≡◌, ◌<◌, ◌^◌, length, Some}
+use Rattle.std.specs.Prelude.{◌≡◌, Some}
 use Rattle.jo_prog.specs.declared.program.Program.{Program}
 use Rattle.jo_prog.specs.Program.{method_at}
 use Rattle.jo_prog.specs.TypingPaths.{Typable}

@@ -1,13 +1,16 @@
 //! The heights of a method's stack.
 ghost use Rattle.std.specs.Prelude.{◌≡◌, ◌↔◌, ℕ, Some, IfOk};
 ghost use Rattle.jo_prog.specs.TypingPaths.{HasHeightAt};
+ghost use Rattle.jvm_typing.specs.HeightFaults.{IsHeightAnswer};
 ghost use Rattle.jvm_typing.specs.Searches.{height_at};
 
+use crate::faults::{first_of, height_faults};
+use crate::moves::moves_of;
 use crate::search::find_heights;
 use crate::subjects::Subject;
 use jo_ids::{Memory, MethodId};
 use jo_prog::program::{Program, method_at};
-use jo_prog::typed::Typed;
+use jo_prog::typed::{TypeFault, Typed};
 use std::alloc::Global;
 
 /// The height at each pc of the method that a typing path reaches, that of the first one, and none elsewhere. A method without code
@@ -29,6 +32,33 @@ pub fn heights_of(alloc: Global, program: &Program, method: MethodId) -> Result<
     };
     let heights = find_heights(alloc, &subject)?;
     Ok(Typed::of(heights))
+}
+
+/// The first fault of the method that the heights of its typing paths tell: all faults but those of kinds. A method without code has
+/// none.
+pub fn first_height_fault(
+    alloc: Global,
+    program: &Program,
+    method: MethodId,
+) -> Result<Option<TypeFault>, Memory>
+    ensures { IfOk result (λ fault. IsHeightAnswer program.now method fault) }
+{
+    let Some(found) = method_at(program, method) else {
+        return Ok(None);
+    };
+    let Some(code) = &found.code else {
+        return Ok(None);
+    };
+    let subject = Subject {
+        program,
+        number: method,
+        method: found,
+        code,
+    };
+    let heights = find_heights(alloc, &subject)?;
+    let moves = moves_of(alloc, &subject, heights.as_slice())?;
+    let faults = height_faults(alloc, &subject, heights.as_slice(), moves.as_slice())?;
+    Ok(first_of(faults.as_slice()))
 }
 
 #[cfg(test)]

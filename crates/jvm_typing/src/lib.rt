@@ -3,12 +3,25 @@
 //! `laws` has what holds of the typing paths themselves.
 #![tactic(auto)]
 
+mod asks;
+mod effects;
+mod facts;
+mod faults;
+mod flows;
+mod forms;
 mod heights;
+mod kind_faults;
+mod kinds;
 pub mod laws;
 mod marks;
+mod moves;
 mod search;
 mod sizes;
+mod sources;
 mod spots;
+mod starts;
 mod subjects;
+mod typing_methods;
 
-pub use heights::heights_of;
+pub use heights::{first_height_fault, heights_of};
+pub use typing_methods::type_method;

@@ -49,7 +49,7 @@ fn visit(
     }
 }
 
-fn known_height(heights: &[Option<u16>], pc: u32) -> Option<u16>
+pub(crate) fn known_height(heights: &[Option<u16>], pc: u32) -> Option<u16>
     ensures { result ≡ height_at heights.now pc }
 {
     heights.get(pc as usize).copied().flatten()

@@ -18,12 +18,13 @@ use jo_prog::program::{MemberRef, Method, Operand, Program, TypeRef, class_at};
 use jo_text::{DescFault, MethodDesc, is_field_desc, read_method_desc};
 use std::alloc::{AllocError, Global};
 
-/// How many places an instruction pops and pushes, and the local that it reads or writes.
+/// How many places an instruction pops and pushes, and the locals that it reads and writes.
 #[derive(Clone, Copy)]
 pub(crate) struct Size {
     pub(crate) pops: usize,
     pub(crate) pushes: u8,
-    pub(crate) local: Option<u16>,
+    pub(crate) reads: Option<u16>,
+    pub(crate) writes: Option<u16>,
 }
 
 pub(crate) fn within(low: u8, high: u8, op: u8) -> bool
@@ -33,22 +34,49 @@ pub(crate) fn within(low: u8, high: u8, op: u8) -> bool
 }
 
 pub(crate) fn of_stack(pops: usize, pushes: u8) -> Size
-    ensures { result ≡ record { pops = pops; pushes = pushes; local = None } }
+    ensures { result ≡ record { pops = pops; pushes = pushes; reads = None; writes = None } }
 {
     Size {
         pops,
         pushes,
-        local: None,
+        reads: None,
+        writes: None,
     }
 }
 
-fn of_local(pops: usize, pushes: u8, local: u16) -> Size
-    ensures { result ≡ record { pops = pops; pushes = pushes; local = Some local } }
+/// Of an instruction that pushes what a local holds.
+fn of_load(local: u16) -> Size
+    ensures { result ≡ record { pops = 0; pushes = 1; reads = Some local; writes = None } }
 {
     Size {
-        pops,
-        pushes,
-        local: Some(local),
+        pops: 0,
+        pushes: 1,
+        reads: Some(local),
+        writes: None,
+    }
+}
+
+/// Of an instruction that pops into a local.
+fn of_store(local: u16) -> Size
+    ensures { result ≡ record { pops = 1; pushes = 0; reads = None; writes = Some local } }
+{
+    Size {
+        pops: 1,
+        pushes: 0,
+        reads: None,
+        writes: Some(local),
+    }
+}
+
+/// Of `iinc`.
+fn of_step(local: u16) -> Size
+    ensures { result ≡ record { pops = 0; pushes = 0; reads = Some local; writes = Some local } }
+{
+    Size {
+        pops: 0,
+        pushes: 0,
+        reads: Some(local),
+        writes: Some(local),
     }
 }
 
@@ -70,13 +98,13 @@ fn short_local_size(op: u8) -> Option<Size>
     ensures { result ≡ option_map size_of (short_local_effect op) }
 {
     if within(26, 29, op) {
-        Some(of_local(0, 1, u16::from(op - 26)))
+        Some(of_load(u16::from(op - 26)))
     } else if within(42, 45, op) {
-        Some(of_local(0, 1, u16::from(op - 42)))
+        Some(of_load(u16::from(op - 42)))
     } else if within(59, 62, op) {
-        Some(of_local(1, 0, u16::from(op - 59)))
+        Some(of_store(u16::from(op - 59)))
     } else if within(75, 78, op) {
-        Some(of_local(1, 0, u16::from(op - 75)))
+        Some(of_store(u16::from(op - 75)))
     } else {
         None
     }
@@ -183,13 +211,13 @@ fn local_size(op: u8, local: u16) -> Size
     ensures { result ≡ size_of (local_effect op local) }
 {
     if op == 21 {
-        of_local(0, 1, local)
+        of_load(local)
     } else if op == 25 {
-        of_local(0, 1, local)
+        of_load(local)
     } else if op == 54 {
-        of_local(1, 0, local)
+        of_store(local)
     } else if op == 58 {
-        of_local(1, 0, local)
+        of_store(local)
     } else {
         of_stack(0, 0)
     }
@@ -319,7 +347,11 @@ fn operand_size(
 }
 
 /// What an instruction of the method names by this pool index.
-fn operand_at<'p>(program: &'p Program, method: &Method, index: u16) -> Option<&'p Operand>
+pub(crate) fn operand_at<'p>(
+    program: &'p Program,
+    method: &Method,
+    index: u16,
+) -> Option<&'p Operand>
     ensures { (m : ℕ) → method_at program.now m ≡ Some method.now → option_copied result ≡ operand_at program.now m index }
 {
     let class = class_at(program, method.class)?;
@@ -335,7 +367,7 @@ pub(crate) fn insn_size(alloc: Global, subject: &Subject<'_>, insn: Insn) -> Res
     match insn {
         Insn::Plain(op) => Ok(plain_size(op)),
         Insn::Local { op, index, .. } => Ok(local_size(op, index)),
-        Insn::Iinc { index, .. } => Ok(of_local(0, 0, index)),
+        Insn::Iinc { index, .. } => Ok(of_step(index)),
         Insn::Push { .. } => Ok(of_stack(0, 1)),
         Insn::Pooled { op, index } => {
             let operand = operand_at(subject.program, subject.method, index);

@@ -32,7 +32,7 @@ pub(crate) struct Onward {
     pub(crate) height: u16,
 }
 
-fn insn_at(code: &Code, pc: u32) -> Option<Placed>
+pub(crate) fn insn_at(code: &Code, pc: u32) -> Option<Placed>
     ensures { result ≡ InsnTyping.insn_at code.now pc }
 {
     let bytes = code.bytes.as_slice();

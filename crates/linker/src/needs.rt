@@ -185,7 +185,8 @@ pub fn missing_class(
     ensures { IfOk result (λ first. first ≡ position (lacks_class names.now) classes.now) }
 {
     for (number, class) in classes.iter().enumerate() {
-        if lacks_class(alloc, names, class)? {
+        let lacks = lacks_class(alloc, names, class)?;
+        if lacks {
             return Ok(Some(ClassId::of(number as u32)));
         }
     }

@@ -1,4 +1,4 @@
-use Rattle.std.proofs.Common.{◌≡◌, ◌<◌, ◌+◌, ◌-◌, length}
+use Rattle.std.proofs.Common.{◌<◌, ◌+◌, ◌-◌, length}
 use Rattle.jvm_typing.specs.Marks.{unknown}
 use Rattle.jvm_typing.specs.Subjects.{program_of, typable_of}
 use Rattle.jvm_typing.proofs.SearchState.{Searches}

@@ -1,6 +1,6 @@
-use Rattle.std.proofs.Common.{◌≡◌, ℕ, eqb, List, [], ◌∙◌, ap, refl}
+use Rattle.std.proofs.Common.{ℕ, eqb, List, ◌∙◌, ap}
 use Rattle.std.proofs.lemmas.List.Filters.{dedup_is}
-use Rattle.jvm_typing.specs.Marks.{Marks, all_marked, handlers_marked}
+use Rattle.jvm_typing.specs.Marks.{all_marked, handlers_marked}
 use Rattle.jvm_typing.proofs.VisitLemmas.{spread_is}
 use Rattle.jvm_typing.proofs.search.spread.Goals as goal
 

@@ -1,4 +1,4 @@
-use Rattle.std.proofs.Common.{◌≡◌, ℕ, List, refl, subst}
+use Rattle.std.proofs.Common.{ℕ, List, subst}
 use Rattle.jo_text.specs.Descriptors.{SpellsMethod, IsMethodDesc}
 use Rattle.jvm_typing.proofs.DescriptorReads.{method_is, method_isnt}
 use Rattle.jvm_typing.proofs.sizes.call_size.Goals as goal

@@ -1,4 +1,4 @@
-use Rattle.std.proofs.Common.{◌≡◌, false, ◌++◌, drop, map}
+use Rattle.std.proofs.Common.{◌≡◌, ◌++◌, drop, map}
 use Rattle.std.specs.Prelude.{pos}
 use Rattle.jo_prog.specs.TypingPaths.{leads_outside}
 use Rattle.jvm_typing.proofs.spots.all_inside.Given as goal

@@ -1,4 +1,4 @@
-use Rattle.std.proofs.Common.{Some, sym, ap}
+use Rattle.std.proofs.Common.{sym, ap}
 use Rattle.std.specs.Prelude.{option_map}
 use Rattle.jo_prog.specs.declared.program.TypeRef.TheVariants.{Array}
 use Rattle.linker.proofs.TypeLemmas.{spelled_is_in, none_is_in}

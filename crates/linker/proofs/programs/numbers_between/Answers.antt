@@ -1,4 +1,4 @@
-use Rattle.std.proofs.Common.{◌≡◌, ◌≤◌, ◌∙◌, arith}
+use Rattle.std.proofs.Common.{◌∙◌, arith}
 use Rattle.std.proofs.lemmas.Grind.{common_steps}
 use Rattle.linker.proofs.CountLemmas.{none_yet, one_number}
 use Rattle.linker.proofs.programs.numbers_between.Goals as goal

@@ -1,5 +1,4 @@
 use Rattle.std.proofs.Common.{drop}
-use Rattle.std.specs.List.{list_any}
 use Rattle.linker.specs.Linking.{names_entry}
 use Rattle.linker.proofs.UsedLemmas.{AddsOn}
 use Rattle.linker.proofs.used.add_insns.Given as goal

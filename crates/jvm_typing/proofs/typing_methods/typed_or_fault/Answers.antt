@@ -1,0 +1,18 @@
+use Rattle.std.proofs.Common.{rules, ◌≡◌, ◌↔◌, ℕ, List, Option, Some, None, refl, sym, subst}
+use Rattle.jo_prog.specs.declared.typed.TypeFault.{TypeFault}
+use Rattle.jo_prog.specs.TypingPaths.{HasHeightAt}
+use Rattle.jvm_typing.specs.KindFaults.{IsFirstAnswer}
+use Rattle.jvm_typing.specs.Searches.{height_at}
+use Rattle.jvm_typing.specs.Subjects.{program_of, typable_of}
+use Rattle.jvm_typing.proofs.HeightLemmas.{heights_exact}
+use Rattle.jvm_typing.proofs.typing_methods.typed_or_fault.Goals as goal
+
+pub returns-in-None : goal.returns-in-None
+returns-in-None c =
+    let s = c.args.subject.now in
+    let p = program_of s in
+    let none : c.in_ok-first.first ≡ None = search rules in
+    let typed = subst (λ (o : Option TypeFault). IsFirstAnswer p s.number o) none c.in_ok-first.ensures in
+    let heights = subst (λ (l : List (Option ℕ)). (pc h : ℕ) → (height_at l pc ≡ Some h) ↔ HasHeightAt p s.number pc h) (sym c.of.ensures)
+    (heights_exact p s.number (typable_of s) c.in_ok-heights.heights.items (refl, c.requires.subject.found, c.requires.subject.has_code) c.in_ok-heights.ensures) in
+    (typed, heights)

@@ -1,0 +1,152 @@
+//! Which kinds places may hold at a pc: a list that grows.
+ghost use Rattle.std.specs.Prelude.{◌≡◌, ◌↔◌, true, ℕ, Contains, map, IfOk, OnOk};
+ghost use Rattle.jo_prog.specs.Typing.{Kind as OfKind};
+ghost use Rattle.jvm_typing.specs.Adds.{Adds};
+ghost use Rattle.jvm_typing.specs.Kinds.{kind_in};
+ghost use Rattle.jvm_typing.specs.KindPasses.{Item, items_of, Grows, HeldBy};
+
+use crate::kinds::{Kind, copy_kind};
+use jo_ids::Memory;
+use jo_prog::program::TypeRef;
+use jo_text::{Base, FieldDesc};
+use std::alloc::Global;
+
+/// A kind that a place may hold at a pc. The locals come first, then the stack from its top.
+#[derive(Drop)]
+pub(crate) struct Fact {
+    pub(crate) pc: u32,
+    pub(crate) place: usize,
+    pub(crate) kind: Kind,
+}
+
+fn same_base(a: &Base, b: &Base) -> bool
+    ensures { result ≡ true → a.now ≡ b.now }
+{
+    match a {
+        Base::Byte => matches!(b, Base::Byte),
+        Base::Char => matches!(b, Base::Char),
+        Base::Double => matches!(b, Base::Double),
+        Base::Float => matches!(b, Base::Float),
+        Base::Int => matches!(b, Base::Int),
+        Base::Long => matches!(b, Base::Long),
+        Base::Short => matches!(b, Base::Short),
+        Base::Boolean => matches!(b, Base::Boolean),
+        Base::Class(a) => match b {
+            Base::Class(b) => a.as_slice() == b.as_slice(),
+            _ => false,
+        },
+    }
+}
+
+fn same_desc(a: &FieldDesc, b: &FieldDesc) -> bool
+    ensures { result ≡ true → a.now ≡ b.now }
+{
+    if a.dims != b.dims {
+        return false;
+    }
+    same_base(&a.base, &b.base)
+}
+
+fn same_type(a: &TypeRef, b: &TypeRef) -> bool
+    ensures { result ≡ true → a.now ≡ b.now }
+{
+    match a {
+        TypeRef::Class(a) => match b {
+            TypeRef::Class(b) => a.number() == b.number(),
+            TypeRef::Array(_) => false,
+        },
+        TypeRef::Array(a) => match b {
+            TypeRef::Class(_) => false,
+            TypeRef::Array(b) => same_desc(a, b),
+        },
+    }
+}
+
+fn same_kind(a: &Kind, b: &Kind) -> bool
+    ensures { result ≡ true → a.now ≡ b.now }
+{
+    match a {
+        Kind::Int => matches!(b, Kind::Int),
+        Kind::Null => matches!(b, Kind::Null),
+        Kind::Ref(a) => match b {
+            Kind::Ref(b) => same_type(a, b),
+            _ => false,
+        },
+        Kind::Unset => matches!(b, Kind::Unset),
+    }
+}
+
+fn is_fact(fact: &Fact, pc: u32, place: usize, kind: &Kind) -> bool
+    ensures { result ≡ true → fact.now ≡ record { pc = pc; place = place; kind = kind.now } }
+{
+    if fact.pc != pc {
+        return false;
+    }
+    if fact.place != place {
+        return false;
+    }
+    same_kind(&fact.kind, kind)
+}
+
+fn has_fact(facts: &[Fact], pc: u32, place: usize, kind: &Kind) -> bool
+    ensures { result ≡ true → Contains facts.now (record { pc = pc; place = place; kind = kind.now }) }
+{
+    for fact in facts {
+        if is_fact(fact, pc, place, kind) {
+            return true;
+        }
+    }
+    false
+}
+
+/// Adds that, unless it is there. Whether it wasn't.
+pub(crate) fn add_fact(
+    facts: &mut Vec<Fact>,
+    pc: u32,
+    place: usize,
+    kind: Kind,
+) -> Result<bool, Memory>
+    ensures { IfOk result (λ more. Grows (λ (x : Item). x ≡ record { pc = pc; place = place; kind = kind_in kind }) (items_of facts.old.items) (items_of facts.new.items) more) }
+{
+    if has_fact(facts.as_slice(), pc, place, &kind) {
+        return Ok(false);
+    }
+    facts.push(Fact { pc, place, kind })?;
+    Ok(true)
+}
+
+fn copy_where(
+    alloc: Global,
+    kinds: &mut Vec<Kind>,
+    fact: &Fact,
+    pc: u32,
+    place: usize,
+) -> Result<(), Memory>
+    ensures { OnOk result (Adds (Contains (map kind_in kinds.old.items)) (Contains (map kind_in kinds.new.items)) (HeldBy fact.now pc place)) }
+{
+    if fact.pc != pc {
+        return Ok(());
+    }
+    if fact.place != place {
+        return Ok(());
+    }
+    let kind = copy_kind(alloc, &fact.kind)?;
+    kinds.push(kind)?;
+    Ok(())
+}
+
+/// The kinds that are known of a place at a pc.
+pub(crate) fn kinds_at(
+    alloc: Global,
+    facts: &[Fact],
+    pc: u32,
+    place: usize,
+) -> Result<Vec<Kind>, Memory>
+    ensures { IfOk result (λ kinds. (kind : OfKind) → Contains (map kind_in kinds.items) kind ↔ Contains (items_of facts.now) (record { pc = pc; place = place; kind = kind })) }
+{
+    let mut kinds = Vec::new(alloc);
+    for fact in facts {
+        copy_where(alloc, &mut kinds, fact, pc, place)?;
+    }
+    Ok(kinds)
+}

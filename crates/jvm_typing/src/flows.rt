@@ -1,0 +1,223 @@
+//! How kinds spread along the steps of the code, until nothing is new.
+ghost use Rattle.std.specs.Prelude.{◌≡◌, ◌||◌, ◌<◌, ◌≤◌, ◌+◌, ◌^◌, ◌↔◌, false, Some, length, Contains, IfOk};
+ghost use Rattle.std.specs.Option.{option_copied};
+ghost use Rattle.hierarchy.specs.Hierarchies.{IsHierarchyOf};
+ghost use Rattle.jo_prog.specs.TypingPaths.{effect_at};
+ghost use Rattle.jvm_typing.specs.Adds.{From};
+ghost use Rattle.jvm_typing.specs.Effects.{effect_in};
+ghost use Rattle.jvm_typing.specs.Kinds.{change_in};
+ghost use Rattle.jvm_typing.specs.KindPasses.{Item, items_of, Grows, Brings, Turned, Spreads, ClosedAt, ClosedBelow, ClosedFor, AreKinds, row_at};
+ghost use Rattle.jvm_typing.specs.Moves.{IsMove};
+ghost use Rattle.jvm_typing.specs.Searches.{height_at, AreHeights};
+ghost use Rattle.jvm_typing.specs.Sources.{source_in};
+ghost use Rattle.jvm_typing.specs.Subjects.{program_of, typable_of, IsSubject};
+ghost use Rattle.jvm_typing.specs.declared.moves.Move.{Move};
+
+use crate::effects::{Effect, effect_at};
+use crate::facts::{Fact, add_fact, kinds_at};
+use crate::faults::differs;
+use crate::kinds::{Change, Kind, changed};
+use crate::moves::Move;
+use crate::search::known_height;
+use crate::sources::{Sizes, Source, source_of};
+use crate::starts::start_facts;
+use crate::subjects::Subject;
+use hierarchy::Hierarchy;
+use jo_ids::Memory;
+use jo_prog::program::{Program, Row};
+use std::alloc::{AllocError, Global};
+
+fn either(a: bool, b: bool) -> bool
+    ensures { result ≡ (a || b) }
+{
+    a || b
+}
+
+fn bring_one(
+    alloc: Global,
+    program: &Program,
+    facts: &mut Vec<Fact>,
+    to: u32,
+    place: usize,
+    change: Change,
+    kind: &Kind,
+) -> Result<bool, Memory>
+    requires { length program.now.classes < 2 ^ 32 }
+    ensures { IfOk result (λ more. Grows (Turned program.now to place (change_in change) kind.now) (items_of facts.old.items) (items_of facts.new.items) more) }
+{
+    let made = changed(alloc, program, change, kind)?;
+    let more = add_fact(facts, to, place, made)?;
+    Ok(more)
+}
+
+fn bring_all(
+    alloc: Global,
+    program: &Program,
+    facts: &mut Vec<Fact>,
+    to: u32,
+    place: usize,
+    change: Change,
+    kinds: &[Kind],
+) -> Result<bool, Memory>
+    requires { length program.now.classes < 2 ^ 32 }
+    ensures { IfOk result (λ more. Grows (From kinds.now (Turned program.now to place (change_in change))) (items_of facts.old.items) (items_of facts.new.items) more) }
+{
+    let mut more = false;
+    for kind in kinds {
+        let new = bring_one(alloc, program, facts, to, place, change, kind)?;
+        more = either(more, new);
+    }
+    Ok(more)
+}
+
+/// Adds what a source brings into a place.
+fn bring(
+    alloc: Global,
+    program: &Program,
+    facts: &mut Vec<Fact>,
+    from: u32,
+    to: u32,
+    place: usize,
+    source: Source,
+) -> Result<bool, Memory>
+    requires { length program.now.classes < 2 ^ 32 }
+    ensures { IfOk result (λ more. Grows (Brings program.now (items_of facts.old.items) from to place (source_in source)) (items_of facts.old.items) (items_of facts.new.items) more) }
+{
+    match source {
+        Source::Fixed(kind) => {
+            let more = add_fact(facts, to, place, kind)?;
+            Ok(more)
+        }
+        Source::FromPlace(before, change) => {
+            let kinds = kinds_at(alloc, facts.as_slice(), from, before)?;
+            let more = bring_all(alloc, program, facts, to, place, change, kinds.as_slice())?;
+            Ok(more)
+        }
+    }
+}
+
+fn row_at<'p>(rows: &'p [Row], row: Option<usize>) -> Option<&'p Row>
+    ensures { option_copied result ≡ row_at rows.now row }
+{
+    match row {
+        Some(place) => rows.get(place),
+        None => None,
+    }
+}
+
+/// Adds what a step brings into each place behind it.
+fn bring_step(
+    alloc: Global,
+    subject: &Subject<'_>,
+    heights: &[Option<u16>],
+    facts: &mut Vec<Fact>,
+    effect: &Effect,
+    sizes: Sizes,
+    step: Move,
+) -> Result<bool, Memory>
+    requires short { length (program_of subject.now).classes < 2 ^ 32 }
+    requires heights { AreHeights (program_of subject.now) (typable_of subject.now) heights.now }
+    requires is_move { IsMove (program_of subject.now) (typable_of subject.now) heights.now step }
+    requires at_height { height_at heights.now step.from ≡ Some sizes.height }
+    requires to_height { height_at heights.now step.to ≡ Some step.height }
+    requires locals { sizes.locals ≡ subject.now.code.now.max_locals }
+    requires effect { effect_in effect.now ≡ effect_at (program_of subject.now) (typable_of subject.now) step.from }
+    ensures { IfOk result (λ more. Spreads (program_of subject.now) (typable_of subject.now) heights.now (ClosedBelow (program_of subject.now) (typable_of subject.now) step sizes.height (subject.now.code.now.max_locals + step.height)) (items_of facts.old.items) (items_of facts.new.items) more) }
+{
+    let mut more = false;
+    for place in 0..usize::from(sizes.locals) + usize::from(step.height) {
+        let row = row_at(subject.code.rows.as_slice(), step.row);
+        let source = source_of(alloc, effect, row, sizes, place)?;
+        let new = bring(
+            alloc,
+            subject.program,
+            facts,
+            step.from,
+            step.to,
+            place,
+            source,
+        )?;
+        more = either(more, new);
+    }
+    Ok(more)
+}
+
+/// Adds what a step brings, where it leads to a pc at the height that this has.
+fn flow(
+    alloc: Global,
+    hierarchy: &Hierarchy,
+    subject: &Subject<'_>,
+    heights: &[Option<u16>],
+    facts: &mut Vec<Fact>,
+    step: Move,
+) -> Result<bool, Memory>
+    requires subject { IsSubject subject.now }
+    requires kept { IsHierarchyOf (program_of subject.now) hierarchy.now }
+    requires short { length (program_of subject.now).classes < 2 ^ 32 }
+    requires heights { AreHeights (program_of subject.now) (typable_of subject.now) heights.now }
+    requires is_move { IsMove (program_of subject.now) (typable_of subject.now) heights.now step }
+    ensures { IfOk result (λ more. Spreads (program_of subject.now) (typable_of subject.now) heights.now (ClosedAt (program_of subject.now) (typable_of subject.now) heights.now step) (items_of facts.old.items) (items_of facts.new.items) more) }
+{
+    let Some(height) = known_height(heights, step.from) else {
+        return Ok(false);
+    };
+    if differs(heights, step.to, step.height) {
+        return Ok(false);
+    }
+    let effect = effect_at(alloc, hierarchy, subject, step.from)?;
+    let sizes = Sizes {
+        locals: subject.code.max_locals,
+        height,
+    };
+    let more = bring_step(alloc, subject, heights, facts, &effect, sizes, step)?;
+    Ok(more)
+}
+
+/// One pass over all steps. Whether anything was new.
+fn round(
+    alloc: Global,
+    hierarchy: &Hierarchy,
+    subject: &Subject<'_>,
+    heights: &[Option<u16>],
+    moves: &[Move],
+    facts: &mut Vec<Fact>,
+) -> Result<bool, Memory>
+    requires subject { IsSubject subject.now }
+    requires kept { IsHierarchyOf (program_of subject.now) hierarchy.now }
+    requires short { length (program_of subject.now).classes < 2 ^ 32 }
+    requires heights { AreHeights (program_of subject.now) (typable_of subject.now) heights.now }
+    requires moves { (m : Move) → Contains moves.now m ↔ IsMove (program_of subject.now) (typable_of subject.now) heights.now m }
+    ensures { IfOk result (λ more. Spreads (program_of subject.now) (typable_of subject.now) heights.now (ClosedFor (program_of subject.now) (typable_of subject.now) heights.now moves.now) (items_of facts.old.items) (items_of facts.new.items) more) }
+{
+    let mut more = false;
+    for step in moves {
+        let new = flow(alloc, hierarchy, subject, heights, facts, *step)?;
+        more = either(more, new);
+    }
+    Ok(more)
+}
+
+/// The kinds that the places of the method may hold at each pc, at the height that it has.
+pub(crate) fn kinds_of(
+    alloc: Global,
+    hierarchy: &Hierarchy,
+    subject: &Subject<'_>,
+    heights: &[Option<u16>],
+    moves: &[Move],
+) -> Result<Vec<Fact>, Memory>
+    requires subject { IsSubject subject.now }
+    requires kept { IsHierarchyOf (program_of subject.now) hierarchy.now }
+    requires short { length (program_of subject.now).classes < 2 ^ 32 }
+    requires heights { AreHeights (program_of subject.now) (typable_of subject.now) heights.now }
+    requires moves { (m : Move) → Contains moves.now m ↔ IsMove (program_of subject.now) (typable_of subject.now) heights.now m }
+    ensures { IfOk result (λ facts. AreKinds (program_of subject.now) (typable_of subject.now) heights.now (items_of facts.items)) }
+{
+    let mut facts = start_facts(alloc, subject)?;
+    // each pass but the last finds something, so this many find more than memory holds
+    for _ in 0..u32::MAX {
+        if !round(alloc, hierarchy, subject, heights, moves, &mut facts)? {
+            return Ok(facts);
+        }
+    }
+    Err(AllocError)
+}
