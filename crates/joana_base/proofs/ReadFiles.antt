@@ -1,63 +1,45 @@
 -- From what single reads say to what reading the files of a program says.
-use Rattle.std.proofs.Common.{◌≡◌, ◌∙◌, ℕ, suc, ◌+◌, ◌<◌, ◌≤◌, ◌^◌, Bool, true, false, cond, not, ◌==◌, ◌||◌, List, [], ◌∷◌, ◌++◌, length, drop, filter, get_or, Option, Some, IfSome, Result, Err, slice_get, refl, sym, ap, subst, arith}
+use Rattle.std.proofs.Common.{◌≡◌, ◌∙◌, ℕ, suc, ◌+◌, ◌-◌, ◌<◌, ◌≤◌, ◌^◌, min, Bool, true, false, ◌||◌, List, [], ◌∷◌, ◌++◌, length, drop, get_or, Option, Some, IfSome, Err, slice_get, refl, sym, ap, subst, arith}
 use Rattle.std.specs.Prelude.{Vec}
-use Rattle.std.specs.Str.{IsUtf8, is_utf8}
-use Rattle.std.specs.Str.Lines.{lines, lines_of_parts}
-use Rattle.std.specs.List.{slice_split, onto_first}
+use Rattle.std.specs.Str.{IsUtf8}
 use Rattle.std.specs.declared.alloc.Global.{Global}
-use Rattle.std.proofs.lemmas.Bool.{ltb-false}
-use Rattle.std.proofs.lemmas.Str.{IsUtf8-from_is_utf8, is_utf8-from_IsUtf8}
+use Rattle.std.proofs.lemmas.Bool.{ltb-false, lt-ltb}
 use Rattle.std.proofs.lemmas.List.{append-nil, drop_more, drop_all}
 use Rattle.jo_io.specs.Counts.{Rose}
-use Rattle.class_pool.specs.declared.classes.ClassFile.{ClassFile}
-use Rattle.joana_base.specs.Files.{Held, ProgramNames, ProgramFiles, paths_of, IsToldAs, AreToldAs, AreProgramFiles, is_large, classes_of, program_classes}
-use Rattle.joana_base.specs.Reading.{all_bytes, change_of, AreReadable, IsPathRead, IsProgramRead, AfterRead, AfterPathReads, AfterListReads, AfterProgramReads, ReadsList, ReadsProgram}
+use Rattle.jo_text.specs.Texts.{StopsAt}
+use Rattle.joana_base.specs.Files.{Held, ProgramNames, ProgramFiles, paths_of, IsToldAs, AreToldAs, AreProgramFiles, is_large, are_many, AreReadable, RefusesList, no_text, many_paths, RefusesFiles, too_large, of_list}
+use Rattle.joana_base.specs.Reading.{all_bytes, change_of, IsPathRead, IsProgramRead, AfterRead, AfterPathReads, AfterListReads, AfterProgramReads, ReadsList, ReadsProgram}
 use Rattle.joana_base.specs.declared.reading.ProgramFiles as memory
 use Rattle.joana_base.specs.declared.answers.Stop.{Stop}
 use Rattle.joana_base.specs.declared.answers.Stop.TheVariants.{Faulty, Unread, Memory}
-use Rattle.joana_base.specs.declared.status.InputFault.TheVariants.{NotBuilt}
-use Rattle.jo_ids.specs.declared.LimitKind.TheVariants.{M2}
+use Rattle.joana_base.specs.declared.status.InputFault.TheVariants.{ClassList}
+use Rattle.jo_ids.specs.declared.LimitKind.TheVariants.{M1, M2}
 use Rattle.joana_base.specs.declared.status.Refusal.{Refusal}
 use Rattle.joana_base.specs.declared.status.Refusal.TheVariants.{Input, Limit}
 
--- ---- a list has fewer paths than bytes
+-- ---- a class list
 
-long_first : (x : ℕ) (parts : List (List ℕ)) → length (onto_first x parts) ≤ suc (length parts)
-long_first x [] = omega arith
-long_first x (y ∷ ys) = omega arith
-
-split_parts : (test : ℕ → Bool) (xs : List ℕ) → length (slice_split test xs) ≤ suc (length xs)
-split_parts test [] = omega arith
-split_parts test (x ∷ xs) = by (test x) (split_parts test xs)
-  where
-    by : (b : Bool) → length (slice_split test xs) ≤ suc (length xs) → length (cond b ([] ∷ slice_split test xs) (onto_first x (slice_split test xs))) ≤ suc (suc (length xs))
-    by true h = omega (arith, h)
-    by false h = let first = long_first x (slice_split test xs) in omega (arith, h, first)
-
-fewer_lines : (parts : List (List ℕ)) → length (lines_of_parts parts) ≤ length parts
-fewer_lines [] = omega arith
-fewer_lines (x ∷ []) = by (length x == 0)
-  where
-    by : (b : Bool) → length (cond {A = List (List ℕ)} b [] (x ∷ [])) ≤ 1
-    by true = omega arith
-    by false = omega arith
-fewer_lines (x ∷ y ∷ more) = let rest = fewer_lines (y ∷ more) in omega (arith, rest)
-
-fewer_kept : {X : Type 0} (test : X → Bool) (xs : List X) → length (filter test xs) ≤ length xs
-fewer_kept test [] = omega arith
-fewer_kept {X} test (x ∷ xs) = by (test x) (fewer_kept test xs)
-  where
-    by : (b : Bool) → length (filter test xs) ≤ length xs → length (cond {A = List X} b (x ∷ filter test xs) (filter test xs)) ≤ suc (length xs)
-    by true h = omega (arith, h)
-    by false h = omega (arith, h)
-
-pub few_paths : (list : List ℕ) → is_large list ≡ false → length (paths_of list) + 2 < 2 ^ 32
-few_paths list small =
+-- a place in a list that isn't too large is below 2^32
+pub list_stop : (list : List ℕ) (at place : ℕ) → is_large list ≡ false → StopsAt IsUtf8 list at → place ≡ min at (2 ^ 32 - 1) → RefusesList list (Input (ClassList place))
+list_stop list at place small stops is =
     let below = ltb-false 1048576 (length list) small in
-    let parts = split_parts (λ b. b == 10) list in
-    let found = fewer_lines (slice_split (λ b. b == 10) list) in
-    let kept = fewer_kept (λ line. not (length line == 0)) (lines list) in
-    omega (arith, below, parts, found, kept)
+    let inside = stops.inside in
+    let same : at ≡ place = omega (arith, is, below, inside) in
+    no_text place (subst (StopsAt IsUtf8 list) same stops)
+
+pub too_many : (list : List ℕ) (paths : List (List ℕ)) → IsUtf8 list → paths ≡ paths_of list → 512 < length paths → RefusesList list (Limit M1)
+too_many list paths text are more = many_paths text (subst (λ xs. are_many xs ≡ true) are (lt-ltb 512 (length paths) more))
+
+-- what refuses a list doesn't let its paths be read
+unread_list : (list : List ℕ) (refusal : Refusal) → RefusesList list refusal → IsUtf8 list → are_many (paths_of list) ≡ false → ⊥
+unread_list list _ (no_text place stops) text few = stops.whole text
+unread_list list _ (many_paths text many) other few = absurd (cc)
+
+pub few_files : (files : ProgramFiles) → AreReadable files → length files.classes < 2 ^ 32
+few_files files ready =
+    let below = ltb-false 512 (length (paths_of files.list)) ready.few in
+    let each = ready.each in
+    omega (arith, below, each)
 
 -- ---- what is held
 
@@ -80,13 +62,6 @@ each_has_one held (n ∷ ns) (x ∷ xs) h = ap suc (each_has_one held ns xs h.1)
 later_rose : (old mid new : ℕ) → mid ≡ old → Rose mid new → Rose old new
 later_rose old mid new same rose = let P : ℕ → Type 0 = λ n. Rose n new in subst P same rose
 
-not_utf8 : (text : List ℕ) → (IsUtf8 text → ⊥) → is_utf8 text ≡ false
-not_utf8 text none = by (is_utf8 text) refl
-  where
-    by : (b : Bool) → is_utf8 text ≡ b → is_utf8 text ≡ false
-    by true e = absurd (none (IsUtf8-from_is_utf8 text e))
-    by false e = e
-
 or_true : (b : Bool) → (b || true) ≡ true
 or_true true = refl
 or_true false = refl
@@ -94,56 +69,39 @@ or_true false = refl
 abbrev of_parts : List ℕ → List ℕ → List (List ℕ) → ProgramFiles
 of_parts policy list classes = record { policy = policy; list = list; classes = classes }
 
--- what is readable goes on to its class files
-pub readable : (files : ProgramFiles) → AreReadable files → program_classes files ≡ classes_of files.classes
-readable files r =
-    let e : (is_large files.policy || is_large files.list) ≡ false = ap (λ b. b || is_large files.list) r.policy ∙ r.list in
-    ap (λ b. cond {A = Result (List ClassFile) Refusal} b (Err (Limit M2)) (cond (is_utf8 files.list) (classes_of files.classes) (Err (Input NotBuilt)))) e
-    ∙ ap (λ b. cond {A = Result (List ClassFile) Refusal} b (classes_of files.classes) (Err (Input NotBuilt))) (is_utf8-from_IsUtf8 files.list r.text)
-
 -- ---- all files of a program
 
 -- what holds where the policy and the list were read
 module _ (held : Held) (names : ProgramNames) (policy list : List ℕ) (has_policy : IsToldAs held names.policy policy) (has_list : IsToldAs held names.classes list) where
-  pub large_policy : true ≡ is_large policy → (files : ProgramFiles) × AreProgramFiles held names files × (program_classes files ≡ Err (Limit M2))
+  pub large_policy : true ≡ is_large policy → (files : ProgramFiles) × AreProgramFiles held names files × RefusesFiles files (Limit M2)
   large_policy large = (
     of_parts policy list [],
-    record { policy = has_policy; list = has_list; classes = λ small _ _. absurd (cc) },
-    ap (λ b. cond {A = Result (List ClassFile) Refusal} (b || is_large list) (Err (Limit M2)) (cond (is_utf8 list) (classes_of []) (Err (Input NotBuilt)))) (sym large),
+    record { policy = has_policy; list = has_list; classes = λ small _ _ _. absurd (cc) },
+    too_large (ap (λ b. b || is_large list) (sym large)),
   )
 
-  pub large_list : true ≡ is_large list → (files : ProgramFiles) × AreProgramFiles held names files × (program_classes files ≡ Err (Limit M2))
+  pub large_list : true ≡ is_large list → (files : ProgramFiles) × AreProgramFiles held names files × RefusesFiles files (Limit M2)
   large_list large = (
     of_parts policy list [],
-    record { policy = has_policy; list = has_list; classes = λ _ small _. absurd (cc) },
-    ap (λ b. cond {A = Result (List ClassFile) Refusal} b (Err (Limit M2)) (cond (is_utf8 list) (classes_of []) (Err (Input NotBuilt)))) (ap (λ b. is_large policy || b) (sym large) ∙ or_true (is_large policy)),
+    record { policy = has_policy; list = has_list; classes = λ _ small _ _. absurd (cc) },
+    too_large (ap (λ b. is_large policy || b) (sym large) ∙ or_true (is_large policy)),
   )
 
   -- neither is large; the class files are read after these
   module _ (later : Held) (same : (name : List ℕ) → later name ≡ held name) (small_policy : false ≡ is_large policy) (small_list : false ≡ is_large list) where
-    neither : (is_large policy || is_large list) ≡ false
-    neither = ap (λ b. b || is_large list) (sym small_policy) ∙ sym small_list
-
-    pub program_read : (classes : List (List ℕ)) → IsUtf8 list × AreToldAs later (paths_of list) classes
+    pub program_read : (classes : List (List ℕ)) → IsUtf8 list × (are_many (paths_of list) ≡ false) × AreToldAs later (paths_of list) classes
         → AreReadable (of_parts policy list classes) × AreProgramFiles held names (of_parts policy list classes)
     program_read classes read =
-        let each = each_holds_as held later same (paths_of list) classes read.1 in
-        let long = each_has_one held (paths_of list) classes each in
-        let few = few_paths list (sym small_list) in (
-          record { policy = sym small_policy; list = sym small_list; text = read.0; few = omega (arith, long, few) },
-          record { policy = has_policy; list = has_list; classes = λ _ _ _. each },
+        let each = each_holds_as held later same (paths_of list) classes read.2 in (
+          record { policy = sym small_policy; list = sym small_list; text = read.0; few = read.1; each = each_has_one held (paths_of list) classes each },
+          record { policy = has_policy; list = has_list; classes = λ _ _ _ _. each },
         )
-
-    no_text : (IsUtf8 list → ⊥) → program_classes (of_parts policy list []) ≡ Err (Input NotBuilt)
-    no_text none =
-        ap (λ b. cond {A = Result (List ClassFile) Refusal} b (Err (Limit M2)) (cond (is_utf8 list) (classes_of []) (Err (Input NotBuilt)))) neither
-        ∙ ap (λ b. cond {A = Result (List ClassFile) Refusal} b (classes_of []) (Err (Input NotBuilt))) (not_utf8 list none)
 
     pub list_stopped : (stop : Stop) → ReadsList later list (Err stop) → ReadsProgram held names (Err stop)
     list_stopped (Faulty refusal) read = (
       of_parts policy list [],
-      record { policy = has_policy; list = has_list; classes = λ _ _ text. absurd (read.1 text) },
-      no_text read.1 ∙ ap (λ (r : Refusal). Err r) (sym read.0),
+      record { policy = has_policy; list = has_list; classes = λ _ _ text few. absurd (unread_list list refusal read text few) },
+      of_list refusal (sym small_policy) (sym small_list) read,
     )
     list_stopped (Unread unread) read = tt
     list_stopped Memory read = tt
@@ -153,7 +111,7 @@ module _ (held : Held) (names : ProgramNames) (policy list : List ℕ) (has_poli
         → AfterProgramReads {T = memory.ProgramFiles} names (Err stop) (change_of held before after failed)
     stopped_after (Faulty refusal) before mid after failed quiet a = a ∙ quiet
     stopped_after (Unread unread) before mid after failed quiet a =
-        let path = a.1.2 in
+        let path = a.1.3 in
         let P : ℕ → Type 0 = λ n. IsProgramRead held names n failed in
         let second : unread.number ≡ suc (suc path.0) = omega (arith, path.1) in
         let read : IsPathRead held names path.0 failed = record {
@@ -164,6 +122,7 @@ module _ (held : Held) (names : ProgramNames) (policy list : List ℕ) (has_poli
           small_policy = sym small_policy;
           small_list = a.1.0;
           text = a.1.1;
+          few = a.1.2;
           path = path.2;
         } in (later_rose before mid after quiet a.0, subst P (sym second) read, a.2)
     stopped_after Memory before mid after failed quiet a = omega (arith, quiet, a)

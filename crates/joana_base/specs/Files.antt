@@ -1,16 +1,17 @@
 -- The files of a command, and the order in which they are refused (this project's own).
-use Rattle.std.specs.Prelude.{◌≡◌, ℕ, suc, Bool, false, ◌||◌, nat_lt, if◌then◌else◌, List, [], ◌∷◌, length, Option, IfSome, Result, Ok, Err, ⊤}
+use Rattle.std.specs.Prelude.{◌≡◌, ℕ, suc, Bool, true, false, ◌||◌, nat_lt, if◌then◌else◌, List, [], ◌∷◌, length, Option, IfSome, Result, Ok, Err, ⊤}
 use Rattle.std.specs.List.{list_any}
-use Rattle.std.specs.Str.{IsUtf8, is_utf8}
+use Rattle.std.specs.Str.{IsUtf8}
 use Rattle.jo_text.specs.Lines.{lines_of}
+use Rattle.jo_text.specs.Texts.{StopsAt}
 use Rattle.class_pool.specs.declared.classes.ClassFile.{ClassFile}
 use Rattle.class_pool.specs.declared.faults.ClassFault.{ClassFault}
 use Rattle.class_pool.specs.ClassOrder.{class_of}
 use Rattle.class_asm.specs.declared.assembly.AsmFault.{AsmFault}
 use Rattle.class_asm.specs.Answers.{answer_of}
 use Rattle.joana_base.specs.declared.reading.ProgramNames as lent
-use Rattle.joana_base.specs.declared.status.InputFault.TheVariants.{NotBuilt, Class, Asm}
-use Rattle.jo_ids.specs.declared.LimitKind.TheVariants.{M2}
+use Rattle.joana_base.specs.declared.status.InputFault.TheVariants.{ClassList, Class, Asm}
+use Rattle.jo_ids.specs.declared.LimitKind.TheVariants.{M1, M2}
 use Rattle.joana_base.specs.declared.status.Refusal.{Refusal}
 use Rattle.joana_base.specs.declared.status.Refusal.TheVariants.{Input, Limit}
 
@@ -36,6 +37,10 @@ names_of names = record { classes = names.classes.now; policy = names.policy.now
 abbrev pub paths_of : List ℕ → List (List ℕ)
 paths_of text = lines_of text
 
+-- a list may have 512 paths
+abbrev pub are_many : List (List ℕ) → Bool
+are_many paths = nat_lt 512 (length paths)
+
 -- a file may have 1,048,576 bytes
 abbrev pub is_large : List ℕ → Bool
 is_large bytes = nat_lt 1048576 (length bytes)
@@ -51,12 +56,12 @@ AreToldAs held (name ∷ names) (bytes ∷ more) = IsToldAs held name bytes × A
 AreToldAs held _ _ = ⊥
 
 -- The files with these names, as far as they are told. Class files count where neither the policy nor the list is too large,
--- and the list is UTF-8, else nothing is said of them.
+-- and the list is UTF-8 with no more paths than it may have, else nothing is said of them.
 pub record AreProgramFiles (held : Held) (names : ProgramNames) (files : ProgramFiles) : Type 0 where
   pub policy : IsToldAs held names.policy files.policy
   pub list : IsToldAs held names.classes files.list
   pub classes : is_large files.policy ≡ false → is_large files.list ≡ false → IsUtf8 files.list
-      → AreToldAs held (paths_of files.list) files.classes
+      → are_many (paths_of files.list) ≡ false → AreToldAs held (paths_of files.list) files.classes
 
 -- the class of the file with this number, or its fault
 abbrev pub class_numbered : ℕ → Result ClassFile ClassFault → Result ClassFile Refusal
@@ -92,10 +97,30 @@ classes_from number (file ∷ more) =
 abbrev pub classes_of : List (List ℕ) → Result (List ClassFile) Refusal
 classes_of files = if list_any is_large files then Err (Limit M2) else classes_from 0 files
 
--- the classes of a program, or the first that refuses its files: the size of the policy or of the list, a list that isn't
--- UTF-8, what is said of the class files
-abbrev pub program_classes : ProgramFiles → Result (List ClassFile) Refusal
-program_classes files =
-    if is_large files.policy || is_large files.list then Err (Limit M2)
-    else if is_utf8 files.list then classes_of files.classes
-    else Err (Input NotBuilt)
+-- ---- the files of a program, and what refuses them, in this order
+
+-- what refuses a class list: the first byte that no UTF-8 continues, or the number of its paths
+pub data RefusesList (list : List ℕ) : Refusal → Type 0 where
+  no_text : (place : ℕ) → StopsAt IsUtf8 list place → RefusesList list (Input (ClassList place))
+  many_paths : IsUtf8 list → are_many (paths_of list) ≡ true → RefusesList list (Limit M1)
+
+-- nothing refuses the files before the class files are looked at, of which each path has one
+pub record AreReadable (files : ProgramFiles) : Type 0 where
+  pub policy : is_large files.policy ≡ false
+  pub list : is_large files.list ≡ false
+  pub text : IsUtf8 files.list
+  pub few : are_many (paths_of files.list) ≡ false
+  pub each : length files.classes ≡ length (paths_of files.list)
+
+-- what refuses the files: the size of the policy or of the list, the list itself, then what is said of the class files
+pub data RefusesFiles (files : ProgramFiles) : Refusal → Type 0 where
+  too_large : (is_large files.policy || is_large files.list) ≡ true → RefusesFiles files (Limit M2)
+  of_list : (refusal : Refusal) → is_large files.policy ≡ false → is_large files.list ≡ false
+      → RefusesList files.list refusal → RefusesFiles files refusal
+  of_classes : (refusal : Refusal) → AreReadable files → classes_of files.classes ≡ Err refusal
+      → RefusesFiles files refusal
+
+-- nothing refuses the files, and these are their classes
+pub record HaveClasses (files : ProgramFiles) (classes : List ClassFile) : Type 0 where
+  pub readable : AreReadable files
+  pub classes_are : classes_of files.classes ≡ Ok classes

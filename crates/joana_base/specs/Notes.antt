@@ -1,6 +1,7 @@
 -- The lines of notes (this project's own).
 use Rattle.std.specs.Prelude.{ℕ, List, [], ◌∷◌, ◌++◌, codes}
 use Rattle.std.specs.Fmt.{decimal}
+use Rattle.jo_text.specs.Escapes.{escaped}
 use Rattle.class_pool.specs.declared.faults.Cut.{Cut}
 use Rattle.class_pool.specs.declared.faults.Cut.TheVariants.{Opcode, Constant, WideType, Synchronized}
 use Rattle.class_pool.specs.declared.faults.ClassCode.{ClassCode}
@@ -9,7 +10,9 @@ use Rattle.class_pool.specs.declared.faults.ClassFault.{ClassFault}
 use Rattle.class_asm.specs.declared.assembly.AsmFault.{AsmFault}
 use Rattle.class_asm.specs.declared.assembly.AsmFault.TheVariants as texts
 use Rattle.joana_base.specs.declared.status.InputFault.{InputFault}
-use Rattle.joana_base.specs.declared.status.InputFault.TheVariants.{NotBuilt, Class, Asm}
+use Rattle.joana_base.specs.declared.status.InputFault.TheVariants.{NotBuilt, ClassList, Class, Link, Asm}
+use Rattle.joana_base.specs.declared.status.LinkKind.{LinkKind}
+use Rattle.joana_base.specs.declared.status.LinkKind.TheVariants.{TwiceDefined, MissingClass, CyclicSuper, MissingMember, NotImplemented, InterfaceBody, StaticInit}
 use Rattle.jo_ids.specs.declared.LimitKind.{LimitKind}
 use Rattle.jo_ids.specs.declared.LimitKind.TheVariants.{M1, M2, M3, M4, M5, M6, M7}
 use Rattle.joana_base.specs.declared.status.Refusal.{Refusal}
@@ -63,9 +66,24 @@ asm_words (texts.Label line) = codes "A2 " ++ decimal line
 asm_words (texts.Range line) = codes "A3 " ++ decimal line
 asm_words texts.Memory = []
 
+abbrev pub link_word : LinkKind → List ℕ
+link_word TwiceDefined = codes "L1"
+link_word MissingClass = codes "L2"
+link_word CyclicSuper = codes "L3"
+link_word MissingMember = codes "L4"
+link_word NotImplemented = codes "L5"
+link_word InterfaceBody = codes "L6"
+link_word StaticInit = codes "L7"
+
+-- the fault of class files together: its code and the class by its name
+abbrev pub link_words : LinkKind → List ℕ → List ℕ
+link_words kind name = link_word kind ++ 32 ∷ escaped name
+
 abbrev pub fault_words : InputFault → List ℕ
 fault_words NotBuilt = codes "NotBuilt"
+fault_words (ClassList place) = codes "B1 " ++ decimal place
 fault_words (Class file fault) = class_words file fault
+fault_words (Link kind name) = link_words kind name
 fault_words (Asm fault) = asm_words fault
 
 abbrev pub limit_word : LimitKind → List ℕ

@@ -7,10 +7,8 @@ use Rattle.jo_io.specs.declared.files.FileFault.{FileFault}
 use Rattle.jo_io.specs.declared.files.FileFault.TheVariants as faults
 use Rattle.class_pool.specs.declared.classes.ClassFile.{ClassFile}
 use Rattle.class_pool.specs.ClassGrammar.{IsClass}
-use Rattle.joana_base.specs.Files.{Held, ProgramNames, ProgramFiles, paths_of, is_large, IsToldAs, AreToldAs, AreProgramFiles, program_classes}
+use Rattle.joana_base.specs.Files.{Held, ProgramNames, ProgramFiles, paths_of, is_large, IsToldAs, AreToldAs, AreProgramFiles, are_many, RefusesList, RefusesFiles, AreReadable}
 use Rattle.joana_base.specs.declared.status.Refusal.{Refusal}
-use Rattle.joana_base.specs.declared.status.Refusal.TheVariants.{Input}
-use Rattle.joana_base.specs.declared.status.InputFault.TheVariants.{NotBuilt}
 use Rattle.joana_base.specs.declared.reading.ProgramFiles as memory
 use Rattle.joana_base.specs.declared.answers.Stop.{Stop}
 use Rattle.joana_base.specs.declared.answers.Stop.TheVariants.{Faulty, Unread, Memory}
@@ -68,15 +66,15 @@ IsReadOf paths number name = (k : ℕ) × (number ≡ k + 2) × (slice_get paths
 abbrev pub AfterPathReads : {T : Type 0} → List (List ℕ) → Result T Stop → FilesChange → Type 0
 AfterPathReads paths result files = AfterReads (IsReadOf paths) result files
 
--- the reads of the paths of a list, which is text and not too large
+-- the reads of the paths of a list, which is text, and neither too large nor has too many
 abbrev pub AfterListReads : {T : Type 0} → List ℕ → Result T Stop → FilesChange → Type 0
 AfterListReads list result files =
     let IsName : ℕ → List ℕ → Type 0 = λ number name.
-    (is_large list ≡ false) × IsUtf8 list × IsReadOf (paths_of list) number name in
+    (is_large list ≡ false) × IsUtf8 list × (are_many (paths_of list) ≡ false) × IsReadOf (paths_of list) number name in
     AfterReads IsName result files
 
 -- The read of the path with this number in the class list: neither the policy nor the list is too large, and the list is
--- UTF-8.
+-- UTF-8 with no more paths than it may have.
 pub record IsPathRead (held : Held) (names : ProgramNames) (k : ℕ) (name : List ℕ) : Type 0 where
   pub policy : List ℕ
   pub policy_told : IsToldAs held names.policy policy
@@ -85,6 +83,7 @@ pub record IsPathRead (held : Held) (names : ProgramNames) (k : ℕ) (name : Lis
   pub small_policy : is_large policy ≡ false
   pub small_list : is_large list ≡ false
   pub text : IsUtf8 list
+  pub few : are_many (paths_of list) ≡ false
   pub path : slice_get (paths_of list) k ≡ Some name
 
 -- the name of the read with that number: the policy, the class list, then the paths of the list
@@ -109,25 +108,19 @@ ReadsPaths held paths (Ok classes) = AreToldAs held paths (all_bytes classes.ite
 ReadsPaths held paths (Err (Faulty refusal)) = ⊥
 ReadsPaths held paths (Err stop) = ⊤
 
--- the class files of a list, which is UTF-8
+-- the class files of a list, or what refuses it
 abbrev pub ReadsList : Held → List ℕ → Result (Vec (Vec ℕ Global) Global) Stop → Type 0
-ReadsList held list (Ok classes) = IsUtf8 list × AreToldAs held (paths_of list) (all_bytes classes.items)
-ReadsList held list (Err (Faulty refusal)) = (refusal ≡ Input NotBuilt) × ¬ IsUtf8 list
+ReadsList held list (Ok classes) =
+    IsUtf8 list × (are_many (paths_of list) ≡ false) × AreToldAs held (paths_of list) (all_bytes classes.items)
+ReadsList held list (Err (Faulty refusal)) = RefusesList list refusal
 ReadsList held list (Err stop) = ⊤
-
--- the files were read, and nothing refuses them before the class files are looked at
-pub record AreReadable (files : ProgramFiles) : Type 0 where
-  pub policy : is_large files.policy ≡ false
-  pub list : is_large files.list ≡ false
-  pub text : IsUtf8 files.list
-  pub few : length files.classes < 2 ^ 32
 
 -- the files of a program were read; or they are refused
 abbrev pub ReadsProgram : Held → ProgramNames → Result memory.ProgramFiles Stop → Type 0
 ReadsProgram held names (Ok files) =
     AreReadable (in_bytes files) × AreProgramFiles held names (in_bytes files)
 ReadsProgram held names (Err (Faulty refusal)) =
-    (files : ProgramFiles) × AreProgramFiles held names files × (program_classes files ≡ Err refusal)
+    (files : ProgramFiles) × AreProgramFiles held names files × RefusesFiles files refusal
 ReadsProgram held names (Err stop) = ⊤
 
 -- ---- the classes of files that were read
@@ -144,3 +137,8 @@ IsUnlessMemory (Ok found) wanted = wanted ≡ Ok found
 IsUnlessMemory (Err (Faulty refusal)) wanted = wanted ≡ Err refusal
 IsUnlessMemory (Err (Unread unread)) wanted = ⊥
 IsUnlessMemory (Err Memory) wanted = ⊤
+
+-- the same of classes in memory
+abbrev pub AreUnlessMemory : Result (Vec ClassFile Global) Stop → Result (List ClassFile) Refusal → Type 0
+AreUnlessMemory (Ok found) wanted = wanted ≡ Ok found.items
+AreUnlessMemory (Err stop) wanted = IsUnlessMemory {A = List ClassFile} (Err stop) wanted

@@ -5,7 +5,7 @@ ghost use Rattle.class_pool.specs.ClassOrder.{class_of};
 ghost use Rattle.class_pool.specs.ClassGrammar.{IsClass};
 ghost use Rattle.class_pool.specs.Fitting.{FitsClass};
 ghost use Rattle.joana_base.specs.Files.{is_large as is_too_large, class_numbered, file_class, text_class, classes_from, classes_of as classes_in};
-ghost use Rattle.joana_base.specs.Reading.{all_bytes, AreClasses, IsUnlessMemory};
+ghost use Rattle.joana_base.specs.Reading.{all_bytes, AreClasses, IsUnlessMemory, AreUnlessMemory};
 
 use crate::answers::Stop;
 use crate::reading::is_large;
@@ -13,7 +13,6 @@ use crate::status::{InputFault, LimitKind, Refusal};
 use class_asm::{AsmFault, assemble};
 use class_pool::{ClassCode, ClassFile};
 use class_read::read_class;
-use jo_ids::List;
 use std::alloc::Global;
 
 /// Whether one of the files is too large.
@@ -44,13 +43,13 @@ fn class_in(alloc: Global, number: u32, file: &[u8]) -> Result<ClassFile, Stop>
 }
 
 /// The classes of files that aren't too large.
-fn classes_in_order(alloc: Global, files: &[Vec<u8>]) -> Result<List<ClassFile>, Stop>
+fn classes_in_order(alloc: Global, files: &[Vec<u8>]) -> Result<Vec<ClassFile>, Stop>
     requires few { length files.now < 2 ^ 32 }
     requires small { list_any is_too_large (all_bytes files.now) ≡ false }
-    ensures value { IsUnlessMemory result (classes_from 0 (all_bytes files.now)) }
-    ensures classes { IfOk result (AreClasses (all_bytes files.now)) }
+    ensures value { AreUnlessMemory result (classes_from 0 (all_bytes files.now)) }
+    ensures classes { IfOk result (λ classes. AreClasses (all_bytes files.now) classes.items) }
 {
-    let mut classes = List::new(alloc);
+    let mut classes = Vec::new(alloc);
     for (number, file) in files.iter().enumerate() {
         match class_in(alloc, number as u32, file.as_slice()) {
             Ok(class) => match classes.push(class) {
@@ -64,10 +63,10 @@ fn classes_in_order(alloc: Global, files: &[Vec<u8>]) -> Result<List<ClassFile>,
 }
 
 /// The classes of the files, in their order.
-pub fn classes_of(alloc: Global, files: &[Vec<u8>]) -> Result<List<ClassFile>, Stop>
+pub fn classes_of(alloc: Global, files: &[Vec<u8>]) -> Result<Vec<ClassFile>, Stop>
     requires { length files.now < 2 ^ 32 }
-    ensures value { IsUnlessMemory result (classes_in (all_bytes files.now)) }
-    ensures classes { IfOk result (AreClasses (all_bytes files.now)) }
+    ensures value { AreUnlessMemory result (classes_in (all_bytes files.now)) }
+    ensures classes { IfOk result (λ classes. AreClasses (all_bytes files.now) classes.items) }
 {
     if has_large(files) {
         return Err(Stop::Faulty(Refusal::Limit(LimitKind::M2)));

@@ -3,9 +3,10 @@ ghost use Rattle.std.specs.Prelude.{◌≡◌, ◌++◌, OnOk, IfOk, codes};
 ghost use Rattle.std.specs.Fmt.{decimal};
 ghost use Rattle.joana_base.specs.Notes;
 
-use crate::status::{InputFault, LimitKind, Refusal};
+use crate::status::{InputFault, LimitKind, LinkKind, Refusal};
 use class_asm::AsmFault;
 use class_pool::{ClassCode, ClassFault, Cut};
+use jo_text::{Name, push_escaped};
 use std::alloc::{AllocError as Memory, Global};
 
 fn push_number(alloc: Global, out: &mut Vec<u8>, n: u32) -> Result<(), Memory>
@@ -79,12 +80,12 @@ fn push_class_fault(
     push_detail(alloc, out, fault.code)
 }
 
-/// A word and the line of an assembly text with a fault.
-fn push_at_line(alloc: Global, out: &mut Vec<u8>, word: &[u8], line: u32) -> Result<(), Memory>
-    ensures { OnOk result (out.new.items ≡ out.old.items ++ (word.now ++ decimal line)) }
+/// A word and the place or the line of a text with a fault.
+fn push_at(alloc: Global, out: &mut Vec<u8>, word: &[u8], place: u32) -> Result<(), Memory>
+    ensures { OnOk result (out.new.items ≡ out.old.items ++ (word.now ++ decimal place)) }
 {
     out.extend_from_slice(word)?;
-    push_number(alloc, out, line)
+    push_number(alloc, out, place)
 }
 
 /// The fault of an assembly text. Want of memory is none.
@@ -92,20 +93,45 @@ fn push_asm_fault(alloc: Global, out: &mut Vec<u8>, fault: AsmFault) -> Result<(
     ensures { OnOk result (out.new.items ≡ out.old.items ++ Notes.asm_words fault) }
 {
     match fault {
-        AsmFault::Line(line) => push_at_line(alloc, out, b"A1 ", line),
-        AsmFault::Label(line) => push_at_line(alloc, out, b"A2 ", line),
-        AsmFault::Range(line) => push_at_line(alloc, out, b"A3 ", line),
+        AsmFault::Line(line) => push_at(alloc, out, b"A1 ", line),
+        AsmFault::Label(line) => push_at(alloc, out, b"A2 ", line),
+        AsmFault::Range(line) => push_at(alloc, out, b"A3 ", line),
         AsmFault::Memory => Ok(()),
     }
 }
 
-fn push_fault(alloc: Global, out: &mut Vec<u8>, fault: InputFault) -> Result<(), Memory>
-    ensures { OnOk result (out.new.items ≡ out.old.items ++ Notes.fault_words fault) }
+fn link_word(kind: LinkKind) -> &'static [u8]
+    ensures { result.now ≡ Notes.link_word kind }
+{
+    match kind {
+        LinkKind::TwiceDefined => b"L1",
+        LinkKind::MissingClass => b"L2",
+        LinkKind::CyclicSuper => b"L3",
+        LinkKind::MissingMember => b"L4",
+        LinkKind::NotImplemented => b"L5",
+        LinkKind::InterfaceBody => b"L6",
+        LinkKind::StaticInit => b"L7",
+    }
+}
+
+/// The fault of the class with that name.
+fn push_link_fault(out: &mut Vec<u8>, kind: LinkKind, name: &Name) -> Result<(), Memory>
+    ensures { OnOk result (out.new.items ≡ out.old.items ++ Notes.link_words kind name.now) }
+{
+    out.extend_from_slice(link_word(kind))?;
+    out.push(b' ')?;
+    push_escaped(out, name.as_slice())
+}
+
+fn push_fault(alloc: Global, out: &mut Vec<u8>, fault: &InputFault) -> Result<(), Memory>
+    ensures { OnOk result (out.new.items ≡ out.old.items ++ Notes.fault_words fault.now) }
 {
     match fault {
         InputFault::NotBuilt => out.extend_from_slice(b"NotBuilt"),
-        InputFault::Class(file, fault) => push_class_fault(alloc, out, file, fault),
-        InputFault::Asm(fault) => push_asm_fault(alloc, out, fault),
+        InputFault::ClassList(place) => push_at(alloc, out, b"B1 ", *place),
+        InputFault::Class(file, fault) => push_class_fault(alloc, out, *file, *fault),
+        InputFault::Link(kind, name) => push_link_fault(out, *kind, name),
+        InputFault::Asm(fault) => push_asm_fault(alloc, out, *fault),
     }
 }
 
@@ -123,9 +149,9 @@ fn limit_word(kind: LimitKind) -> &'static [u8]
     }
 }
 
-fn input_line(alloc: Global, fault: InputFault) -> Result<Vec<u8>, Memory>
+fn input_line(alloc: Global, fault: &InputFault) -> Result<Vec<u8>, Memory>
     ensures { IfOk result (λ line.
-        line.items ≡ codes "joana: input " ++ Notes.fault_words fault ++ codes "\n") }
+        line.items ≡ codes "joana: input " ++ Notes.fault_words fault.now ++ codes "\n") }
 {
     let mut line = Vec::new(alloc);
     line.extend_from_slice(b"joana: input ")?;
@@ -146,11 +172,11 @@ fn limit_line(alloc: Global, kind: LimitKind) -> Result<Vec<u8>, Memory>
 }
 
 /// The line that says what refuses a command.
-pub fn refusal_line(alloc: Global, refusal: Refusal) -> Result<Vec<u8>, Memory>
-    ensures { IfOk result (λ line. line.items ≡ Notes.refusal_line refusal) }
+pub fn refusal_line(alloc: Global, refusal: &Refusal) -> Result<Vec<u8>, Memory>
+    ensures { IfOk result (λ line. line.items ≡ Notes.refusal_line refusal.now) }
 {
     match refusal {
         Refusal::Input(fault) => input_line(alloc, fault),
-        Refusal::Limit(kind) => limit_line(alloc, kind),
+        Refusal::Limit(kind) => limit_line(alloc, *kind),
     }
 }

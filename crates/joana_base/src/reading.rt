@@ -14,6 +14,9 @@ use std::alloc::Global;
 /// How many bytes a file may have.
 const LARGEST: usize = 1_048_576;
 
+/// How many paths a class list may have.
+const MOST_PATHS: usize = 512;
+
 /// Whether a file has more bytes than it may have.
 pub fn is_large(bytes: &[u8]) -> bool
     ensures { result ≡ is_too_large bytes.now }
@@ -112,14 +115,21 @@ fn read_list<F: Files>(alloc: Global, files: &mut F, list: &[u8]) -> Result<Vec<
         (files_change F.held F.faults F.failed files.old files.new) }
     ensures read { ReadsList (F.held files.old) list.now result }
 {
-    match split_lines(alloc, list) {
-        Ok(paths) => read_paths(alloc, files, paths.as_slice()),
-        Err(ListFault::NotUtf8(_)) => Err(Stop::Faulty(Refusal::Input(InputFault::NotBuilt))),
-        Err(ListFault::Memory) => Err(Stop::Memory),
+    let paths = match split_lines(alloc, list) {
+        Ok(paths) => paths,
+        Err(ListFault::NotUtf8(place)) => {
+            return Err(Stop::Faulty(Refusal::Input(InputFault::ClassList(place))));
+        }
+        Err(ListFault::Memory) => return Err(Stop::Memory),
+    };
+    if paths.as_slice().len() > MOST_PATHS {
+        return Err(Stop::Faulty(Refusal::Limit(LimitKind::M1)));
     }
+    read_paths(alloc, files, paths.as_slice())
 }
 
-/// Reads the policy, the class list, and its class files where neither of the two is too large.
+/// Reads the policy, the class list, and its class files where neither of the two is too large and the list is UTF-8 with
+/// no more paths than it may have.
 pub fn read_program<F: Files>(
     alloc: Global,
     files: &mut F,

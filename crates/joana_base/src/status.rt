@@ -2,9 +2,10 @@
 use class_asm::AsmFault;
 use class_pool::ClassFault;
 pub use jo_ids::LimitKind;
+use jo_text::Name;
 
 /// How a run ended.
-#[derive(Clone, Copy, PartialEq, Eq, Debug)]
+#[derive(Drop)]
 pub enum Status {
     /// It did what was asked, and the answer is yes.
     Done,
@@ -22,13 +23,36 @@ pub enum Status {
     Memory,
 }
 
-/// What is wrong with the input.
+/// Why class files make no program together: kinds of faults of a class, in the order in which they are told.
 #[derive(Clone, Copy, PartialEq, Eq, Debug)]
+pub enum LinkKind {
+    /// The class has the name of an earlier one.
+    TwiceDefined,
+    /// It needs a class that isn't there.
+    MissingClass,
+    /// It is above itself, or a superclass or an interface stands in the place of the other.
+    CyclicSuper,
+    /// An instruction names a member that it can't take.
+    MissingMember,
+    /// A call would find no body, or an object's class can have none.
+    NotImplemented,
+    /// An interface has code or a field of its instances.
+    InterfaceBody,
+    /// It has a class initializer.
+    StaticInit,
+}
+
+/// What is wrong with the input.
+#[derive(Drop)]
 pub enum InputFault {
     /// The files are in no form that is built.
     NotBuilt,
+    /// The place of the first byte of the class list that no UTF-8 continues.
+    ClassList(u32),
     /// The first fault of the class file with that number, counted from 0 in the order of the class list.
     Class(u32, ClassFault),
+    /// The class files make no program, for the class with this name.
+    Link(LinkKind, Name),
     /// The first fault of an assembly text.
     Asm(AsmFault),
 }
@@ -43,7 +67,7 @@ pub enum OutsideFault {
 }
 
 /// What refuses the files of a command.
-#[derive(Clone, Copy, PartialEq, Eq, Debug)]
+#[derive(Drop)]
 pub enum Refusal {
     Input(InputFault),
     Limit(LimitKind),

@@ -45,7 +45,7 @@ fn run(alloc: Global, word: &str, bytes: &[u8]) -> Result<Answer, Fail> {
 fn texts_are_assembled(rt: HostRuntime) -> Result<(), Fail> {
     let alloc = rt.alloc();
     let small = run(alloc, "asm", E.as_bytes())?;
-    assert_eq!(rt; small.status, Status::Done);
+    assert!(rt; matches!(small.status, Status::Done));
     assert_eq!(rt; small.out.as_slice(), E_CLASS.as_slice());
     let worked = run(alloc, "asm", WORKED.as_bytes())?;
     assert_eq!(rt; worked.out.as_slice(), worked_class().as_slice());
@@ -57,7 +57,7 @@ fn texts_are_assembled(rt: HostRuntime) -> Result<(), Fail> {
 fn a_listing_is_assembled_again(rt: HostRuntime) -> Result<(), Fail> {
     let alloc = rt.alloc();
     let class = run(alloc, "asm", listing_of_a().as_bytes())?;
-    assert_eq!(rt; class.status, Status::Done);
+    assert!(rt; matches!(class.status, Status::Done));
     let listed = run(alloc, "dis", class.out.as_slice())?;
     assert_eq!(rt; listed.out.as_slice(), listing_of_a().as_bytes());
     Ok(())
@@ -72,6 +72,6 @@ fn texts_are_refused(rt: HostRuntime) -> Result<(), Fail> {
     assert_eq!(rt; faulty.out.len(), 0);
     assert_eq!(rt; faulty.notes.as_slice(), b"joana: input A1 2\n".as_slice());
     let large = run(alloc, "asm", vec![in alloc; b'\n'; 1_048_577]?.as_slice())?;
-    assert_eq!(rt; large.status, Status::Limit(LimitKind::M2));
+    assert!(rt; matches!(large.status, Status::Limit(LimitKind::M2)));
     Ok(())
 }

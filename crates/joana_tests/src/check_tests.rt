@@ -1,18 +1,17 @@
 //! `check` on the worked class, whole and changed, and words that are no command.
-use crate::runs::{Answer, Failing, NONE_FAILS, Stored, answer_to, changed};
-use class_pool::{ClassCode, ClassFault};
-use joana_top::{InputFault, OutsideFault, Status};
+use crate::runs::{Answer, Failing, NONE_FAILS, Stored, answer_to, changed, told};
+use joana_top::{OutsideFault, Status};
 use samples::{worked_class, worked_head, worked_labels, worked_report};
 use std::alloc::Global;
 use std::test::Fail;
 
 const CHECK: [&str; 3] = ["check", "l", "p"];
 
-const NOT_BUILT: Status = Status::Input(InputFault::NotBuilt);
+const DONE: &str = "0 ";
 
-fn faulty(code: ClassCode, place: u32) -> Status {
-    Status::Input(InputFault::Class(0, ClassFault { code, place }))
-}
+const REFUSED: &str = "1 ";
+
+const NOT_BUILT: &str = "3 joana: input NotBuilt\n";
 
 // The class with these bytes in the place of `count` bytes.
 fn edited(alloc: Global, at: usize, count: usize, bytes: &[u8]) -> Result<Vec<u8>, Fail> {
@@ -42,21 +41,21 @@ fn good_policy(alloc: Global) -> Result<String, Fail> {
     Ok(format!(in alloc; "{head}{labels}")?)
 }
 
-fn with_good_policy(alloc: Global, class: Vec<u8>) -> Result<Status, Fail> {
+fn with_good_policy(alloc: Global, class: Vec<u8>) -> Result<String, Fail> {
     let policy = good_policy(alloc)?;
     let found = check(alloc, policy.as_str(), "c\n", class)?;
-    Ok(found.status)
+    told(alloc, &found)
 }
 
 // What is answered where the class has other bytes at a place.
-fn with_class(alloc: Global, at: usize, count: usize, bytes: &[u8]) -> Result<Status, Fail> {
+fn with_class(alloc: Global, at: usize, count: usize, bytes: &[u8]) -> Result<String, Fail> {
     with_good_policy(alloc, edited(alloc, at, count, bytes)?)
 }
 
-fn with_policy(alloc: Global, head: &str, labels: &str, list: &str) -> Result<Status, Fail> {
+fn with_policy(alloc: Global, head: &str, labels: &str, list: &str) -> Result<String, Fail> {
     let policy = format!(in alloc; "{head}{labels}")?;
     let found = check(alloc, policy.as_str(), list, edited(alloc, 0, 0, &[])?)?;
-    Ok(found.status)
+    told(alloc, &found)
 }
 
 #[test]
@@ -64,7 +63,7 @@ fn the_public_input_is_accepted(rt: HostRuntime) -> Result<(), Fail> {
     let alloc = rt.alloc();
     let policy = good_policy(alloc)?;
     let found = check(alloc, policy.as_str(), "c", edited(alloc, 0, 0, &[])?)?;
-    assert_eq!(rt; found.status, Status::Done);
+    assert!(rt; matches!(found.status, Status::Done));
     assert_eq!(rt; found.out.as_slice(), b"accepted\n".as_slice());
     assert_eq!(rt; found.notes.len(), 0);
     Ok(())
@@ -80,7 +79,7 @@ fn the_secret_is_refused(rt: HostRuntime) -> Result<(), Fail> {
         "\r\nc\r\n\n",
         edited(alloc, 193, 1, &[0x1b])?,
     )?;
-    assert_eq!(rt; found.status, Status::Refused);
+    assert!(rt; matches!(found.status, Status::Refused));
     assert_eq!(rt; found.out.as_slice(), worked_report().as_bytes());
     assert_eq!(rt; found.notes.len(), 0);
     Ok(())
@@ -91,9 +90,9 @@ fn what_a_local_holds_decides(rt: HostRuntime) -> Result<(), Fail> {
     let alloc = rt.alloc();
     // secret into local 0, get into local 1, local 0 shown; then get into local 0 over it
     let swapped = [0x10u8, 0x3b, 0xb8, 0, 0x0e, 0x3c];
-    assert_eq!(rt; with_class(alloc, 187, 6, &swapped)?, Status::Refused);
+    assert_eq!(rt; with_class(alloc, 187, 6, &swapped)?.as_str(), REFUSED);
     let overwritten = [0x10u8, 0x3b, 0xb8, 0, 0x0e, 0x3b];
-    assert_eq!(rt; with_class(alloc, 187, 6, &overwritten)?, Status::Done);
+    assert_eq!(rt; with_class(alloc, 187, 6, &overwritten)?.as_str(), DONE);
     Ok(())
 }
 
@@ -102,16 +101,19 @@ fn levels_decide(rt: HostRuntime) -> Result<(), Fail> {
     let alloc = rt.alloc();
     let apart = "levels = [\"low\", \"high\"]\nentry = \"Main.main()V\"\n";
     assert_eq!(rt;
-        with_policy(alloc, apart, worked_labels(), "c")?,
-        Status::Done
+        with_policy(alloc, apart, worked_labels(), "c")?.as_str(),
+        DONE
     );
     let high_sink =
         "[sources]\n\"Main.get()I\" = \"low\"\n\"Main.secret()I\" = \"high\"\n[sinks]\n\"Main.show(I)V\" = \"high\"\n";
     assert_eq!(rt;
-        with_policy(alloc, worked_head(), high_sink, "c")?,
-        Status::Done
+        with_policy(alloc, worked_head(), high_sink, "c")?.as_str(),
+        DONE
     );
-    assert_eq!(rt; with_policy(alloc, apart, high_sink, "c")?, Status::Refused);
+    assert_eq!(rt;
+        with_policy(alloc, apart, high_sink, "c")?.as_str(),
+        REFUSED
+    );
     Ok(())
 }
 
@@ -124,12 +126,12 @@ fn each_sink_has_its_level(rt: HostRuntime) -> Result<(), Fail> {
     let (head, labels) = (worked_head(), worked_labels());
     let policy = format!(in alloc; "{head}{labels}{sinks}")?;
     let public = check(alloc, policy.as_str(), "c", edited(alloc, 137, 2, &more)?)?;
-    assert_eq!(rt; public.status, Status::Done);
+    assert!(rt; matches!(public.status, Status::Done));
     let turned =
         "[sources]\n\"Main.get()I\" = \"high\"\n\"Main.secret()I\" = \"low\"\n[sinks]\n\"Main.show(I)V\" = \"low\"\n";
     let policy = format!(in alloc; "{head}{turned}{sinks}")?;
     let secret = check(alloc, policy.as_str(), "c", edited(alloc, 137, 2, &more)?)?;
-    assert_eq!(rt; secret.status, Status::Refused);
+    assert!(rt; matches!(secret.status, Status::Refused));
     Ok(())
 }
 
@@ -137,24 +139,46 @@ fn each_sink_has_its_level(rt: HostRuntime) -> Result<(), Fail> {
 fn other_classes_are_not_built(rt: HostRuntime) -> Result<(), Fail> {
     let alloc = rt.alloc();
     // an opcode outside plain code, an underflow, a local that isn't set, a return in the middle
-    assert_eq!(rt; with_class(alloc, 195, 1, &[0x68])?, NOT_BUILT);
-    assert_eq!(rt; with_class(alloc, 193, 1, &[0x3b])?, NOT_BUILT);
-    assert_eq!(rt; with_class(alloc, 192, 2, &[0x3b, 0x1b])?, NOT_BUILT);
-    assert_eq!(rt; with_class(alloc, 193, 3, &[0xb1, 0xb1, 0xb1])?, NOT_BUILT);
+    assert_eq!(rt; with_class(alloc, 195, 1, &[0x68])?.as_str(), NOT_BUILT);
+    assert_eq!(rt; with_class(alloc, 193, 1, &[0x3b])?.as_str(), NOT_BUILT);
+    assert_eq!(rt;
+        with_class(alloc, 192, 2, &[0x3b, 0x1b])?.as_str(),
+        NOT_BUILT
+    );
+    assert_eq!(rt;
+        with_class(alloc, 193, 3, &[0xb1, 0xb1, 0xb1])?.as_str(),
+        NOT_BUILT
+    );
     // a name that no label spells
-    assert_eq!(rt; with_class(alloc, 48, 2, &[0xc3, 0xa9])?, NOT_BUILT);
-    // a row of the exception table, another superclass, a method that isn't native
+    assert_eq!(rt;
+        with_class(alloc, 48, 2, &[0xc3, 0xa9])?.as_str(),
+        NOT_BUILT
+    );
+    // a row of the exception table
     let row = [0, 1, 0, 0, 0, 3, 0, 0, 0, 0];
     let caught = changed(edited(alloc, 200, 2, &row)?, 176, 0x23);
-    assert_eq!(rt; with_good_policy(alloc, caught)?, NOT_BUILT);
-    assert_eq!(rt; with_class(alloc, 131, 2, &[0, 2])?, NOT_BUILT);
-    assert_eq!(rt; with_class(alloc, 139, 2, &[4, 8])?, NOT_BUILT);
+    assert_eq!(rt; with_good_policy(alloc, caught)?.as_str(), NOT_BUILT);
     // a second method with code: secret()V
     let method = [
         0u8, 5, 0, 8, 0, 5, 0, 11, 0, 1, 0, 12, 0, 0, 0, 13, 0, 0, 0, 0, 0, 0, 0, 1, 0xb1, 0, 0, 0,
         0,
     ];
-    assert_eq!(rt; with_class(alloc, 137, 2, &method)?, NOT_BUILT);
+    assert_eq!(rt; with_class(alloc, 137, 2, &method)?.as_str(), NOT_BUILT);
+    Ok(())
+}
+
+#[test]
+fn a_class_alone_may_not_link(rt: HostRuntime) -> Result<(), Fail> {
+    let alloc = rt.alloc();
+    // itself as its superclass, an abstract method that is called
+    assert_eq!(rt;
+        with_class(alloc, 131, 2, &[0, 2])?.as_str(),
+        "3 joana: input L3 Main\n"
+    );
+    assert_eq!(rt;
+        with_class(alloc, 139, 2, &[4, 8])?.as_str(),
+        "3 joana: input L5 Main\n"
+    );
     Ok(())
 }
 
@@ -163,20 +187,20 @@ fn faulty_classes_are_refused(rt: HostRuntime) -> Result<(), Fail> {
     let alloc = rt.alloc();
     // a field with a method's descriptor, an int in the place of this class, a native method with code, a byte too many
     assert_eq!(rt;
-        with_class(alloc, 135, 2, &[0, 1, 0, 8, 0, 5, 0, 6, 0, 0])?,
-        faulty(ClassCode::BadDescriptor, 141)
+        with_class(alloc, 135, 2, &[0, 1, 0, 8, 0, 5, 0, 6, 0, 0])?.as_str(),
+        "3 joana: input C7 0 141\n"
     );
     assert_eq!(rt;
-        with_class(alloc, 17, 3, &[3, 0, 0, 0, 0])?,
-        faulty(ClassCode::PoolIndex, 104)
+        with_class(alloc, 17, 3, &[3, 0, 0, 0, 0])?.as_str(),
+        "3 joana: input C5 0 104\n"
     );
     assert_eq!(rt;
-        with_class(alloc, 163, 2, &[1, 8])?,
-        faulty(ClassCode::CodeBounds, 163)
+        with_class(alloc, 163, 2, &[1, 8])?.as_str(),
+        "3 joana: input C8 0 163\n"
     );
     assert_eq!(rt;
-        with_class(alloc, 205, 1, &[0, 0])?,
-        faulty(ClassCode::Trailing, 206)
+        with_class(alloc, 205, 1, &[0, 0])?.as_str(),
+        "3 joana: input C10 0 206\n"
     );
     Ok(())
 }
@@ -186,7 +210,7 @@ fn attributes_and_other_characters_are_taken(rt: HostRuntime) -> Result<(), Fail
     let alloc = rt.alloc();
     // an attribute of the class, and a character of two bytes in the name of secret
     let attribute = [0, 1, 0, 5, 0, 0, 0, 0];
-    assert_eq!(rt; with_class(alloc, 204, 2, &attribute)?, Status::Done);
+    assert_eq!(rt; with_class(alloc, 204, 2, &attribute)?.as_str(), DONE);
     let labels =
         "[sources]\n\"Main.get()I\" = \"low\"\n\"Main.sec%C3%A9t()I\" = \"high\"\n[sinks]\n\"Main.show(I)V\" = \"low\"\n";
     let head = worked_head();
@@ -197,7 +221,7 @@ fn attributes_and_other_characters_are_taken(rt: HostRuntime) -> Result<(), Fail
         "c",
         edited(alloc, 48, 2, &[0xc3, 0xa9])?,
     )?;
-    assert_eq!(rt; named.status, Status::Done);
+    assert!(rt; matches!(named.status, Status::Done));
     Ok(())
 }
 
@@ -205,30 +229,32 @@ fn attributes_and_other_characters_are_taken(rt: HostRuntime) -> Result<(), Fail
 fn other_policies_and_lists_are_not_built(rt: HostRuntime) -> Result<(), Fail> {
     let alloc = rt.alloc();
     let three = "levels = [\"low\", \"high\", \"top\"]\nentry = \"Main.main()V\"\n";
-    assert_eq!(rt; with_policy(alloc, three, worked_labels(), "c")?, NOT_BUILT);
+    assert_eq!(rt;
+        with_policy(alloc, three, worked_labels(), "c")?.as_str(),
+        NOT_BUILT
+    );
     let two =
         "levels = [\"low\", \"high\"]\nflows = [[\"low\", \"high\"], [\"low\", \"low\"]]\nentry = \"Main.main()V\"\n";
-    assert_eq!(rt; with_policy(alloc, two, worked_labels(), "c")?, NOT_BUILT);
+    assert_eq!(rt;
+        with_policy(alloc, two, worked_labels(), "c")?.as_str(),
+        NOT_BUILT
+    );
     let unknown = "levels = [\"low\", \"high\"]\nentry = \"Main.main()V\"\ncontexts = \"none\"\n";
     assert_eq!(rt;
-        with_policy(alloc, unknown, worked_labels(), "c")?,
+        with_policy(alloc, unknown, worked_labels(), "c")?.as_str(),
         NOT_BUILT
     );
     let unlabelled =
         "[sources]\n\"Main.secret()I\" = \"high\"\n[sinks]\n\"Main.show(I)V\" = \"low\"\n";
     assert_eq!(rt;
-        with_policy(alloc, worked_head(), unlabelled, "c")?,
+        with_policy(alloc, worked_head(), unlabelled, "c")?.as_str(),
         NOT_BUILT
     );
     assert_eq!(rt;
-        with_policy(alloc, worked_head(), worked_labels(), "c\nc\n")?,
+        with_policy(alloc, worked_head(), worked_labels(), "\n")?.as_str(),
         NOT_BUILT
     );
-    assert_eq!(rt;
-        with_policy(alloc, worked_head(), worked_labels(), "\n")?,
-        NOT_BUILT
-    );
-    assert_eq!(rt; with_policy(alloc, "", "no toml", "c")?, NOT_BUILT);
+    assert_eq!(rt; with_policy(alloc, "", "no toml", "c")?.as_str(), NOT_BUILT);
     Ok(())
 }
 
@@ -261,18 +287,24 @@ fn other_words_are_no_command(rt: HostRuntime) -> Result<(), Fail> {
         with_words(alloc, &[])?.notes.as_slice(),
         b"joana: words\n".as_slice()
     );
-    assert_eq!(rt; with_words(alloc, &["check", "l"])?.status, Status::Words);
-    assert_eq!(rt;
-        with_words(alloc, &["check", "l", "p", "c"])?.status,
-        Status::Words
+    assert!(rt; matches!(with_words(alloc, &["check", "l"])?.status, Status::Words));
+    assert!(rt;
+        matches!(
+            with_words(alloc, &["check", "l", "p", "c"])?.status,
+            Status::Words
+        )
     );
-    assert_eq!(rt;
-        with_words(alloc, &["Check", "l", "p"])?.status,
-        Status::Words
+    assert!(rt;
+        matches!(
+            with_words(alloc, &["Check", "l", "p"])?.status,
+            Status::Words
+        )
     );
-    assert_eq!(rt;
-        with_words(alloc, &["check", "l", "p"])?.status,
-        Status::Done
+    assert!(rt;
+        matches!(
+            with_words(alloc, &["check", "l", "p"])?.status,
+            Status::Done
+        )
     );
     Ok(())
 }
@@ -289,19 +321,19 @@ fn failing(read: Option<u32>, out: bool, notes: bool) -> Failing {
 fn failures_of_the_outside_are_told(rt: HostRuntime) -> Result<(), Fail> {
     let alloc = rt.alloc();
     let policy = with_failures(alloc, &CHECK, failing(Some(0), false, false), "c")?;
-    assert_eq!(rt; policy.status, Status::Outside(OutsideFault::File(0)));
+    assert!(rt; matches!(policy.status, Status::Outside(OutsideFault::File(0))));
     assert_eq!(rt; policy.notes.as_slice(), b"joana: outside p\n".as_slice());
     let list = with_failures(alloc, &CHECK, failing(Some(1), false, true), "c")?;
-    assert_eq!(rt; list.status, Status::Outside(OutsideFault::File(1)));
+    assert!(rt; matches!(list.status, Status::Outside(OutsideFault::File(1))));
     let class = with_failures(alloc, &CHECK, failing(Some(2), false, false), "c")?;
     assert_eq!(rt; class.notes.as_slice(), b"joana: outside c\n".as_slice());
     let second = with_failures(alloc, &CHECK, failing(Some(3), false, false), "c\nc")?;
-    assert_eq!(rt; second.status, Status::Outside(OutsideFault::File(3)));
+    assert!(rt; matches!(second.status, Status::Outside(OutsideFault::File(3))));
     let out = with_failures(alloc, &CHECK, failing(None, true, false), "c")?;
-    assert_eq!(rt; out.status, Status::Outside(OutsideFault::Output));
+    assert!(rt; matches!(out.status, Status::Outside(OutsideFault::Output)));
     assert_eq!(rt; out.out.as_slice(), b"a".as_slice());
     assert_eq!(rt; out.notes.as_slice(), b"joana: outside output\n".as_slice());
     let notes = with_failures(alloc, &CHECK, failing(None, false, true), "c\nc")?;
-    assert_eq!(rt; notes.status, Status::Outside(OutsideFault::Notes));
+    assert!(rt; matches!(notes.status, Status::Outside(OutsideFault::Notes)));
     Ok(())
 }

@@ -1,6 +1,5 @@
 //! The commands on class A, whole and spoiled.
 use crate::runs::{Answer, Failing, NONE_FAILS, Stored, answer_to, changed};
-use class_pool::{ClassCode, ClassFault, Cut};
 use joana_top::{InputFault, LimitKind, OutsideFault, Status};
 use samples::{class_a, listing_of_a, policy_of_a};
 use std::alloc::Global;
@@ -61,7 +60,7 @@ fn with_entry(alloc: Global, count: u8, entry: &[u8]) -> Result<Vec<u8>, Fail> {
 fn class_a_is_listed(rt: HostRuntime) -> Result<(), Fail> {
     let alloc = rt.alloc();
     let found = dis(alloc, class_a().to_vec(alloc)?)?;
-    assert_eq!(rt; found.status, Status::Done);
+    assert!(rt; matches!(found.status, Status::Done));
     assert_eq!(rt; found.out.as_slice(), listing_of_a().as_bytes());
     assert_eq!(rt; found.notes.len(), 0);
     Ok(())
@@ -117,7 +116,7 @@ fn a_file_may_have_one_mebibyte(rt: HostRuntime) -> Result<(), Fail> {
     let greatest = vec![in alloc; 0; 1_048_576]?;
     assert!(rt; is_noted(alloc, greatest, "joana: input C2 0 0\n")?);
     let larger = dis(alloc, vec![in alloc; 0; 1_048_577]?)?;
-    assert_eq!(rt; larger.status, Status::Limit(LimitKind::M2));
+    assert!(rt; matches!(larger.status, Status::Limit(LimitKind::M2)));
     assert_eq!(rt; larger.notes.as_slice(), b"joana: limit M2\n".as_slice());
     Ok(())
 }
@@ -133,7 +132,7 @@ fn failures_of_the_outside_are_told(rt: HostRuntime) -> Result<(), Fail> {
         class_a().to_vec(alloc)?,
         failing(Some(0), None, None),
     )?;
-    assert_eq!(rt; read.status, Status::Outside(OutsideFault::File(0)));
+    assert!(rt; matches!(read.status, Status::Outside(OutsideFault::File(0))));
     assert_eq!(rt; read.notes.as_slice(), b"joana: outside c\n".as_slice());
     let put = run(
         alloc,
@@ -142,7 +141,7 @@ fn failures_of_the_outside_are_told(rt: HostRuntime) -> Result<(), Fail> {
         class_a().to_vec(alloc)?,
         failing(None, Some(0), None),
     )?;
-    assert_eq!(rt; put.status, Status::Outside(OutsideFault::Output));
+    assert!(rt; matches!(put.status, Status::Outside(OutsideFault::Output)));
     assert_eq!(rt; put.out.as_slice(), b"c".as_slice());
     let notes = run(
         alloc,
@@ -151,7 +150,7 @@ fn failures_of_the_outside_are_told(rt: HostRuntime) -> Result<(), Fail> {
         with_byte(alloc, 0, 0)?,
         failing(None, None, Some(0)),
     )?;
-    assert_eq!(rt; notes.status, Status::Outside(OutsideFault::Notes));
+    assert!(rt; matches!(notes.status, Status::Outside(OutsideFault::Notes)));
     Ok(())
 }
 
@@ -159,7 +158,7 @@ fn failures_of_the_outside_are_told(rt: HostRuntime) -> Result<(), Fail> {
 fn a_check_is_refused_in_its_order(rt: HostRuntime) -> Result<(), Fail> {
     let alloc = rt.alloc();
     let words = ["check", "l", "p"];
-    // the second file is at fault as the first is, and there are two, which isn't built
+    // the second file is at fault as the first is, and both have one name
     let faulty = run(
         alloc,
         &words,
@@ -167,11 +166,10 @@ fn a_check_is_refused_in_its_order(rt: HostRuntime) -> Result<(), Fail> {
         with_byte(alloc, 279, 0x62)?,
         NONE_FAILS,
     )?;
-    let fault = ClassFault {
-        code: ClassCode::Unsupported(Cut::Opcode(0x62)),
-        place: 279,
-    };
-    assert_eq!(rt; faulty.status, Status::Input(InputFault::Class(0, fault)));
+    assert_eq!(rt;
+        faulty.notes.as_slice(),
+        b"joana: input C11 0 279 opcode 98\n".as_slice()
+    );
     // the list is at fault as a class file
     let second = run(
         alloc,
@@ -211,13 +209,13 @@ fn files_are_read_before_they_are_refused(rt: HostRuntime) -> Result<(), Fail> {
         large,
         failing(Some(1), None, None),
     )?;
-    assert_eq!(rt; policy.status, Status::Outside(OutsideFault::File(1)));
+    assert!(rt; matches!(policy.status, Status::Outside(OutsideFault::File(1))));
     let words = ["check", "l", "p"];
     let second_fails = failing(Some(3), None, None);
     let large = vec![in alloc; 0; 1_048_577]?;
     for class in [large, with_byte(alloc, 0, 0)?] {
         let found = run(alloc, &words, "c\nl\n", class, second_fails)?;
-        assert_eq!(rt; found.status, Status::Outside(OutsideFault::File(3)));
+        assert!(rt; matches!(found.status, Status::Outside(OutsideFault::File(3))));
     }
     Ok(())
 }

@@ -8,4 +8,6 @@ mod check_tests;
 #[cfg(test)]
 mod dis_tests;
 #[cfg(test)]
+mod list_tests;
+#[cfg(test)]
 mod runs;

@@ -2,6 +2,7 @@
 use jo_io::{MemoryFiles, MemorySink};
 use joana_top::{Status, joana};
 use std::alloc::Global;
+use std::str;
 use std::test::Fail;
 
 /// What a run answers and puts.
@@ -42,6 +43,28 @@ fn numbers(alloc: Global, failing: Option<u32>) -> Result<Vec<u32>, Fail> {
     Ok(numbers)
 }
 
+/// What the words answer over files with these names.
+pub fn answer_over(
+    alloc: Global,
+    words: &[&str],
+    pairs: Vec<(String, Vec<u8>)>,
+    failing: Failing,
+) -> Result<Answer, Fail> {
+    let mut given = Vec::new(alloc);
+    for word in words {
+        given.push(word.to_string(alloc)?)?;
+    }
+    let mut files = MemoryFiles::new(pairs, numbers(alloc, failing.read)?);
+    let mut out = MemorySink::new(alloc, 1000, numbers(alloc, failing.out)?)?;
+    let mut notes = MemorySink::new(alloc, 1000, numbers(alloc, failing.notes)?)?;
+    let status = joana(alloc, given.as_slice(), &mut files, &mut out, &mut notes);
+    Ok(Answer {
+        status,
+        out: out.bytes().to_vec(alloc)?,
+        notes: notes.bytes().to_vec(alloc)?,
+    })
+}
+
 /// What the words answer over the files.
 pub fn answer_to(
     alloc: Global,
@@ -56,19 +79,16 @@ pub fn answer_to(
     ))?;
     pairs.push(("l".to_string(alloc)?, stored.list.as_bytes().to_vec(alloc)?))?;
     pairs.push(("c".to_string(alloc)?, stored.class))?;
-    let mut given = Vec::new(alloc);
-    for word in words {
-        given.push(word.to_string(alloc)?)?;
-    }
-    let mut files = MemoryFiles::new(pairs, numbers(alloc, failing.read)?);
-    let mut out = MemorySink::new(alloc, 1000, numbers(alloc, failing.out)?)?;
-    let mut notes = MemorySink::new(alloc, 1000, numbers(alloc, failing.notes)?)?;
-    let status = joana(alloc, given.as_slice(), &mut files, &mut out, &mut notes);
-    Ok(Answer {
-        status,
-        out: out.bytes().to_vec(alloc)?,
-        notes: notes.bytes().to_vec(alloc)?,
-    })
+    answer_over(alloc, words, pairs, failing)
+}
+
+/// The code of the status, and what the notes took.
+pub fn told(alloc: Global, answer: &Answer) -> Result<String, Fail> {
+    let notes = str::from_utf8(answer.notes.as_slice())
+        .ok()
+        .ok_or("the notes are text")?;
+    let code = answer.status.code();
+    Ok(format!(in alloc; "{code} {notes}")?)
 }
 
 /// The class with another byte at a place.

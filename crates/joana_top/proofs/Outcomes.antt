@@ -1,11 +1,20 @@
 -- From the classes of the files and the decision to what a command comes to.
-use Rattle.std.proofs.Common.{◌≡◌, ◌∙◌, inl, inr, ℕ, ◌<◌, ◌≤◌, List, [], ◌∷◌, length, get_or, Result, Ok, Err, refl, sym, ap, subst, arith}
+use Rattle.std.proofs.Common.{◌≡◌, inl, inr, ℕ, ◌<◌, ◌^◌, List, length, Option, Some, None, Result, Ok, Err, refl, sym, subst, arith}
+use Rattle.std.proofs.lemmas.List.{length-map}
+use Rattle.std.specs.Prelude.{Vec}
+use Rattle.std.specs.declared.alloc.Global.{Global}
 use Rattle.class_pool.specs.declared.classes.ClassFile.{ClassFile}
 use Rattle.jo_prog.specs.declared.program.Program.{Program}
+use Rattle.linker.specs.LinkOrder.{IsLinkFault, IsLinkAnswer}
+use Rattle.linker.specs.declared.causes.LinkCode.{LinkCode}
+use Rattle.linker.specs.declared.causes.LinkFault.{LinkFault}
+use Rattle.joana_base.specs.declared.status.LinkKind.{LinkKind}
 use Rattle.jo_prog.specs.declared.labels.Labels.{Labels}
 use Rattle.low_run.proofs.Verdicts.{clean_graph_secure}
-use Rattle.joana_base.specs.Files.{Held, ProgramNames, ProgramFiles, AreProgramFiles, IsToldAs, program_classes, classes_of}
-use Rattle.joana_base.specs.Reading.{FilesChange, AfterReads, AreClasses, AreReadable, IsUnlessMemory}
+use Rattle.joana_base.specs.Files.{Held, ProgramNames, ProgramFiles, AreProgramFiles, IsToldAs, classes_of, AreReadable, of_classes, HaveClasses}
+use Rattle.joana_base.specs.Reading.{FilesChange, in_bytes, AfterReads, ReadsProgram, AreClasses, IsUnlessMemory}
+use Rattle.joana_base.specs.declared.reading.ProgramFiles as memory
+use Rattle.joana_base.proofs.ReadFiles.{few_files}
 use Rattle.joana_base.specs.declared.status.Status.{Status}
 use Rattle.joana_base.specs.declared.status.Status.TheVariants as statuses
 use Rattle.joana_base.specs.declared.status.Refusal.{Refusal}
@@ -13,9 +22,8 @@ use Rattle.joana_base.specs.declared.answers.Answer.{Answer}
 use Rattle.joana_base.specs.declared.answers.Answer.TheVariants.{Yes, No}
 use Rattle.joana_base.specs.declared.answers.Stop.{Stop}
 use Rattle.joana_base.specs.declared.answers.Stop.TheVariants.{Faulty, Unread, Memory}
-use Rattle.joana_base.proofs.ReadFiles.{readable}
 use Rattle.joana_top.specs.Answers.{IsOutcome, IsReadOutcome}
-use Rattle.joana_top.specs.Check.{IsFirstForm, IsInput, IsReportOf, IsReportText, IsCheckText, IsCheckAnswer, IsSecureCheck, IsDecision, IsReadClass, IsShown, IsFilesOutcome, IsCheckOutcome}
+use Rattle.joana_top.specs.Check.{IsLinked, kind_of, of_linking, link_stop_by, link_stop, IsLinkStop, IsFirstForm, IsInput, IsReportOf, IsReportText, IsCheckText, IsCheckAnswer, IsSecureCheck, IsRefusalOf, in_files, in_classes, in_no_form, IsDecision, IsShown, IsFilesOutcome, IsCheckOutcome}
 use Rattle.joana_top.specs.OneFile.{OfFile}
 use Rattle.joana_top.specs.declared.commands.check.Decision.{Decision}
 use Rattle.joana_top.specs.declared.commands.check.Decision.TheVariants as decisions
@@ -36,6 +44,12 @@ check_outcome held names files (Err (Faulty refusal)) are said = (files, are, sa
 check_outcome held names files (Err (Unread unread)) are said = tt
 check_outcome held names files (Err Memory) are said = tt
 
+-- where a read stops, or nothing is read for what refuses the files
+pub read_stopped : (held : Held) (names : ProgramNames) (stop : Stop) → ReadsProgram held names (Err stop) → IsCheckOutcome held names (Err stop)
+read_stopped held names (Faulty refusal) read = (read.0, read.1, in_files refusal read.2)
+read_stopped held names (Unread unread) read = tt
+read_stopped held names Memory read = tt
+
 -- one file, then an outcome
 pub file_outcome : (IsAnswer : List ℕ → Status → List ℕ → Type 0) (IsRefusal : List ℕ → Refusal → Type 0) (held : Held) (name bytes : List ℕ) (result : Result Answer Stop)
     → IsToldAs held name bytes → IsReadOutcome (IsAnswer bytes) (IsRefusal bytes) result
@@ -45,68 +59,61 @@ file_outcome IsAnswer IsRefusal held name bytes (Err (Faulty refusal)) told said
 file_outcome IsAnswer IsRefusal held name bytes (Err (Unread unread)) told said = tt
 file_outcome IsAnswer IsRefusal held name bytes (Err Memory) told said = tt
 
--- ---- the class of a check
+-- ---- the classes of a check
 
--- classes, as what comes of files
-abbrev some : List ClassFile → Result (List ClassFile) Refusal
-some xs = Ok xs
+-- the fault of linking stops the check, unless memory was wanting
+pub link_stopped : (classes : List ClassFile) (fault : LinkFault) → IsLinkAnswer classes fault → IsLinkStop classes (link_stop fault)
+link_stopped classes fault answer =
+    let P : LinkCode → Type 0 = λ code. IsLinkStop classes (link_stop_by (kind_of code) fault.name) in
+    elim answer [ inl wanting ↦ subst P (sym wanting) tt | inr told ↦ by (kind_of fault.code) refl told ]
+  where
+    by : (kind : Option LinkKind) → kind_of fault.code ≡ kind → IsLinkFault classes fault → IsLinkStop classes (link_stop_by kind fault.name)
+    by None is told = tt
+    by (Some kind) is told = of_linking fault kind told is
 
-same_classes : (xs ys : List ClassFile) → some xs ≡ some ys → xs ≡ ys
-same_classes xs ys e = cc
+-- what refuses the class files refuses the check
+pub refused_classes : (files : ProgramFiles) → AreReadable files → (stop : Stop) → IsUnlessMemory {A = List ClassFile} (Err stop) (classes_of files.classes) → IsFilesOutcome files (Err stop)
+refused_classes files ready (Faulty refusal) stopped = in_files refusal (of_classes refusal ready stopped)
+refused_classes files ready (Unread unread) stopped = absurd stopped
+refused_classes files ready Memory stopped = tt
 
--- the one of a list
-pub single : (xs : List ClassFile) (x : ClassFile) → 1 ≤ length xs → length xs < 2 → x ≡ get_or xs 0 x → xs ≡ x ∷ []
-single [] x some few is = absurd (omega (arith, some))
-single (y ∷ []) x some few is = ap (λ (c : ClassFile). c ∷ []) (sym is)
-single (y ∷ z ∷ more) x some few is = absurd (omega (arith, few))
+pub few_classes : (files : memory.ProgramFiles) → AreReadable (in_bytes files) → length files.classes.items < 2 ^ 32
+few_classes files ready =
+    let few = few_files (in_bytes files) ready in
+    let mapped = length-map files.classes.items (λ (file : Vec ℕ Global). file.items) in
+    omega (arith, few, mapped)
 
--- the one class was read
-pub one_read : (files : List (List ℕ)) (class : ClassFile) → AreClasses files (class ∷ []) → IsReadClass class
-one_read [] class all = absurd all
-one_read (bytes ∷ more) class all = (bytes, all.0)
+pub classes_made : (files : ProgramFiles) → AreReadable files → (classes : List ClassFile) → classes_of files.classes ≡ Ok classes → HaveClasses files classes
+classes_made files ready classes comes = record { readable = ready; classes_are = comes }
 
-module _ (files : ProgramFiles) (ready : AreReadable files) where
-  -- what refuses the class files refuses the check
-  pub refused_classes : (stop : Stop) → IsUnlessMemory {A = List ClassFile} (Err stop) (classes_of files.classes) → IsFilesOutcome files (Err stop)
-  refused_classes (Faulty refusal) stopped = inl (readable files ready ∙ stopped)
-  refused_classes (Unread unread) stopped = absurd stopped
-  refused_classes Memory stopped = tt
+module _ (files : ProgramFiles) (classes : List ClassFile) (passes : HaveClasses files classes) where
+  -- so does what refuses them together
+  pub refused_linking : (stop : Stop) → IsLinkStop classes stop → IsFilesOutcome files (Err stop)
+  refused_linking (Faulty refusal) stopped = in_classes classes refusal passes stopped
+  refused_linking (Unread unread) stopped = absurd stopped
+  refused_linking Memory stopped = tt
 
-  module _ (class : ClassFile) (comes : classes_of files.classes ≡ Ok (class ∷ [])) (read : AreClasses files.classes (class ∷ [])) where
-    passes : program_classes files ≡ Ok (class ∷ [])
-    passes = readable files ready ∙ comes
-
-    input_of : (all : List (List ℕ)) → files.classes ≡ all → AreClasses all (class ∷ []) → (program : Program) (labels : Labels) → IsFirstForm class files.policy program labels → IsInput files program labels
-    input_of [] is all program labels form = absurd all
-    input_of (bytes ∷ []) is all program labels form = record { bytes = bytes; one_file = is; class = class; is_class = all.0; passes = passes; form = form }
-    input_of (bytes ∷ more ∷ others) is all program labels form = absurd all.1
-
-    input : (program : Program) (labels : Labels) → IsFirstForm class files.policy program labels → IsInput files program labels
-    input program labels form = input_of files.classes refl read program labels form
-
-    -- the class of the files is the one that was read
-    form_of : (program : Program) (labels : Labels) → IsInput files program labels → IsFirstForm class files.policy program labels
-    form_of program labels i =
-        let same : i.class ∷ [] ≡ class ∷ [] = same_classes (i.class ∷ []) (class ∷ []) (sym i.passes ∙ passes) in
-        let one : i.class ≡ class = cc in
-        let P : ClassFile → Type 0 = λ c. IsFirstForm c files.policy program labels in
-        subst P one i.form
+  module _ (read : AreClasses files.classes classes) (program : Program) (linked : IsLinked classes program) where
+    input : (labels : Labels) → IsFirstForm program files.policy labels → IsInput files program labels
+    input labels form = record { classes = classes; are_classes = read; passes = passes; linked = linked; form = form }
 
     -- what is shown of the decision says so of the files
-    pub decided : (decision : Decision) (result : Result Answer Stop) → IsDecision class files.policy decision → IsShown decision result → IsFilesOutcome files result
-    decided decisions.NotBuilt (Err (Faulty refusal)) none shown = inr (shown, ((class ∷ []), passes, λ program labels i. none program labels (form_of program labels i)))
+    pub decided : (decision : Decision) (result : Result Answer Stop) → IsDecision program files.policy decision → IsShown decision result → IsFilesOutcome files result
+    decided decisions.NotBuilt (Err (Faulty refusal)) none shown =
+        let P : Refusal → Type 0 = IsRefusalOf files in
+        subst P (sym shown) (in_no_form (record { classes = classes; passes = passes; program = program; linked = linked; no_form = none }))
     decided decisions.NotBuilt (Err Memory) none shown = tt
     decided decisions.NotBuilt (Err (Unread unread)) none shown = absurd shown
     decided decisions.NotBuilt (Ok (Yes text)) none shown = absurd shown
     decided decisions.NotBuilt (Ok (No text)) none shown = absurd shown
-    decided decisions.Accepted (Ok (Yes text)) clean shown = (shown, clean.0, clean.1, input clean.0 clean.1 clean.2, clean.3)
+    decided decisions.Accepted (Ok (Yes text)) clean shown = (shown, program, clean.0, input clean.0 clean.1, clean.2)
     decided decisions.Accepted (Ok (No text)) clean shown = absurd shown
     decided decisions.Accepted (Err Memory) clean shown = tt
     decided decisions.Accepted (Err (Faulty refusal)) clean shown = absurd shown
     decided decisions.Accepted (Err (Unread unread)) clean shown = absurd shown
     decided (decisions.Refused report) (Ok (No text)) reports shown =
-        let P : List ℕ → Type 0 = IsReportOf reports.0 reports.1 in
-        (reports.0, reports.1, input reports.0 reports.1 reports.2, subst P (sym shown) reports.3)
+        let P : List ℕ → Type 0 = IsReportOf program reports.0 in
+        (program, reports.0, input reports.0 reports.1, subst P (sym shown) reports.2)
     decided (decisions.Refused report) (Ok (Yes text)) reports shown = absurd shown
     decided (decisions.Refused report) (Err Memory) reports shown = tt
     decided (decisions.Refused report) (Err (Faulty refusal)) reports shown = absurd shown

@@ -1,41 +1,42 @@
 -- `check CLASSES POLICY`: the program that the files make, what it shows of it, and what refuses the files. Programs are of the
--- first form: one class in one straight line, with a small policy.
-use Rattle.std.specs.Prelude.{◌≡◌, ◌⊎◌, ℕ, Bool, true, false, ◌&&◌, ◌==◌, List, [], ◌∷◌, length, slice_get, Option, Some, None, Result, Ok, Err, codes, ⊤}
-use Rattle.std.specs.List.{list_any, list_all}
-use Rattle.std.specs.Str.{IsUtf8, bytes_eq}
+-- first form: of the methods of the class files the entry alone has code, one straight line, and the policy is small.
+use Rattle.std.specs.Prelude.{◌≡◌, ℕ, ◌^◌, ◌<◌, Bool, ◌&&◌, true, List, [], Option, Some, None, is_some, Result, Ok, Err, codes, ⊤}
+use Rattle.std.specs.Str.{IsUtf8}
 use Rattle.toml.specs.Data.{Members}
 use Rattle.toml.specs.Parse.{parse_document}
-use Rattle.jo_insn.specs.AccessFlags.{has_flag, native_flag}
-use Rattle.class_pool.specs.ClassGrammar.{IsClass}
 use Rattle.class_pool.specs.declared.classes.ClassFile.{ClassFile}
-use Rattle.class_pool.specs.declared.classes.CodeInfo.{CodeInfo}
-use Rattle.class_pool.specs.declared.classes.MethodInfo.{MethodInfo}
 use Rattle.jo_prog.specs.declared.program.Program.{Program}
 use Rattle.jo_prog.specs.declared.program.Method.{Method}
 use Rattle.jo_prog.specs.declared.program.Code.{Code}
 use Rattle.jo_prog.specs.declared.labels.Labels.{Labels}
 use Rattle.jo_prog.specs.Program.{code_at, method_at}
-use Rattle.jo_prog.specs.PreludeClasses.{object_name, prelude_names}
+use Rattle.jo_prog.specs.FileClasses.{is_of_files}
 use Rattle.jo_prog.specs.PlainCode.{IsPlainFrom, IsPlainProgram}
 use Rattle.jo_prog.specs.Typing.{IsTyped}
-use Rattle.linker.specs.Linking.{this_name, super_name}
-use Rattle.linker.specs.SingleClass.{program_of}
+use Rattle.linker.specs.Linking.{linked_classes, program_of}
+use Rattle.linker.specs.LinkOrder.{HasNoFault, IsLinkFault}
+use Rattle.linker.specs.declared.causes.LinkFault.{LinkFault}
+use Rattle.linker.specs.declared.causes.LinkCode.{LinkCode}
+use Rattle.linker.specs.declared.causes.LinkCode.TheVariants as links
 use Rattle.jo_policy.specs.PolicyFile.{policy_of}
 use Rattle.dep_nodes.specs.Nodes.{Node}
 use Rattle.dep_nodes.specs.Chains.{Link}
 use Rattle.chain_report.specs.Report.{chain_text}
 use Rattle.low_run.specs.Verdict.{HasCleanGraph, HasReport}
 use Rattle.low_run.specs.Security.{Secure}
-use Rattle.joana_base.specs.Files.{Held, ProgramNames, ProgramFiles, AreProgramFiles, program_classes}
+use Rattle.joana_base.specs.Files.{Held, ProgramNames, ProgramFiles, AreProgramFiles, RefusesFiles, HaveClasses}
+use Rattle.joana_base.specs.Reading.{AreClasses}
 use Rattle.joana_base.specs.declared.status.Status.{Status}
 use Rattle.joana_base.specs.declared.status.Status.TheVariants as statuses
 use Rattle.joana_base.specs.declared.status.InputFault.TheVariants as faults
+use Rattle.joana_base.specs.declared.status.LinkKind.{LinkKind}
+use Rattle.joana_base.specs.declared.status.LinkKind.TheVariants as kinds
 use Rattle.joana_base.specs.declared.status.Refusal.{Refusal}
 use Rattle.joana_base.specs.declared.status.Refusal.TheVariants.{Input}
 use Rattle.joana_base.specs.declared.answers.Answer.{Answer}
 use Rattle.joana_base.specs.declared.answers.Answer.TheVariants.{Yes, No}
 use Rattle.joana_base.specs.declared.answers.Stop.{Stop}
-use Rattle.joana_base.specs.declared.answers.Stop.TheVariants.{Faulty, Memory}
+use Rattle.joana_base.specs.declared.answers.Stop.TheVariants.{Faulty, Unread, Memory}
 use Rattle.joana_top.specs.Answers.{IsOutcome, IsReadOutcome}
 use Rattle.joana_top.specs.declared.commands.check.Decision.{Decision}
 use Rattle.joana_top.specs.declared.commands.check.Decision.TheVariants.{NotBuilt, Accepted, Refused}
@@ -50,49 +51,42 @@ IsClean program labels = HasCleanGraph program labels
 abbrev pub IsReportOf : Program → Labels → List ℕ → Type 0
 IsReportOf program labels text = HasReport program labels text
 
--- the class is no class of the prelude, and its superclass is java/lang/Object
-abbrev pub is_under_object : ClassFile → Bool
-is_under_object c = bytes_eq (super_name c) object_name
+-- the program is that of these class files behind the prelude, and no class has a fault of linking
+pub record IsLinked (classes : List ClassFile) (program : Program) : Type 0 where
+  pub program_is : program ≡ program_of classes
+  pub whole : HasNoFault (linked_classes classes)
 
-abbrev pub is_of_prelude : ClassFile → Bool
-is_of_prelude c = list_any (λ name. bytes_eq name (this_name c)) prelude_names
+-- the method has code, and is one of the class files
+abbrev pub has_file_code : Program → Method → Bool
+has_file_code program method = is_some method.code && is_of_files program method
 
--- no row catches an exception
-abbrev pub has_no_rows : Option CodeInfo → Bool
-has_no_rows None = true
-has_no_rows (Some code) = length code.rows == 0
+-- of the methods of the class files no other than the entry has code
+abbrev pub HasOneCode : Program → ℕ → Type 0
+HasOneCode program entry =
+    (m : ℕ) (method : Method) → method_at program m ≡ Some method → has_file_code program method ≡ true → m ≡ entry
 
--- the class has no interfaces, no fields and no exception rows
-abbrev pub is_bare : ClassFile → Bool
-is_bare c =
-    (length c.interfaces == 0 && length c.fields == 0)
-    && list_all (λ (m : MethodInfo). has_no_rows m.code) c.methods
+-- the code of a method has no row that catches an exception
+abbrev pub CatchesNothing : Program → ℕ → Type 0
+CatchesNothing program m = (code : Code) → code_at program m ≡ Some code → code.rows ≡ []
 
--- The class and the policy make this program with these labels.
-pub record IsFirstForm (class : ClassFile) (policy : List ℕ) (program : Program) (labels : Labels)
-    : Type 0 where
-  pub bare : is_bare class ≡ true
-  pub own_name : is_of_prelude class ≡ false
-  pub superclass : is_under_object class ≡ true
-  pub program_is : program ≡ program_of class
+-- a policy of this text gives the program these labels, and the program is of the first form
+pub record IsFirstForm (program : Program) (policy : List ℕ) (labels : Labels) : Type 0 where
   pub tree : Members
   pub text : IsUtf8 policy
   pub parsed : parse_document policy ≡ Some tree
   pub labels_are : policy_of tree program ≡ Some labels
-  -- each method but the entry is native
-  pub one_code : (m : ℕ) (method : Method) → method_at program m ≡ Some method
-      → (m ≡ labels.entry) ⊎ (has_flag native_flag method.flags ≡ true)
+  pub one_code : HasOneCode program labels.entry
+  pub no_rows : CatchesNothing program labels.entry
   pub plain : IsPlainProgram program labels
 
--- The files of a check are in the first form: nothing refuses them before the verdict, there is one class file, and its
--- class and the policy make this program with these labels.
+-- The files of a check are in the first form: nothing refuses them, their classes are linked to this program, to which the
+-- policy gives these labels.
 pub record IsInput (files : ProgramFiles) (program : Program) (labels : Labels) : Type 0 where
-  pub bytes : List ℕ
-  pub one_file : files.classes ≡ bytes ∷ []
-  pub class : ClassFile
-  pub is_class : IsClass bytes class
-  pub passes : program_classes files ≡ Ok (class ∷ [])
-  pub form : IsFirstForm class files.policy program labels
+  pub classes : List ClassFile
+  pub are_classes : AreClasses files.classes classes
+  pub passes : HaveClasses files classes
+  pub linked : IsLinked classes program
+  pub form : IsFirstForm program files.policy labels
 
 -- ---- what it shows
 
@@ -134,16 +128,36 @@ IsSecureCheck held names status = ⊤
 
 -- ---- what refuses its files
 
--- nothing refuses the files before the verdict, and they are in no form that is built
-abbrev pub IsNoForm : ProgramFiles → Type 0
-IsNoForm files =
-    (classes : List ClassFile) × (program_classes files ≡ Ok classes)
-    × ((program : Program) (labels : Labels) → ¬ IsInput files program labels)
+-- the kind of a fault of linking; want of memory is none
+abbrev pub kind_of : LinkCode → Option LinkKind
+kind_of links.TwiceDefined = Some kinds.TwiceDefined
+kind_of links.MissingClass = Some kinds.MissingClass
+kind_of links.CyclicSuper = Some kinds.CyclicSuper
+kind_of links.MissingMember = Some kinds.MissingMember
+kind_of links.NotImplemented = Some kinds.NotImplemented
+kind_of links.InterfaceBody = Some kinds.InterfaceBody
+kind_of links.StaticInit = Some kinds.StaticInit
+kind_of links.Memory = None
 
--- the first of them that is too large, is at fault or isn't built
-abbrev pub IsRefusalOf : ProgramFiles → Refusal → Type 0
-IsRefusalOf files refusal =
-    (program_classes files ≡ Err refusal) ⊎ ((refusal ≡ Input faults.NotBuilt) × IsNoForm files)
+-- the fault of linking that is told of these classes
+pub data RefusesClasses (classes : List ClassFile) : Refusal → Type 0 where
+  of_linking : (fault : LinkFault) (kind : LinkKind) → IsLinkFault classes fault → kind_of fault.code ≡ Some kind
+      → RefusesClasses classes (Input (faults.Link kind fault.name))
+
+-- nothing refuses the files before the verdict, and they are in no form that is built
+pub record IsNoForm (files : ProgramFiles) : Type 0 where
+  pub classes : List ClassFile
+  pub passes : HaveClasses files classes
+  pub program : Program
+  pub linked : IsLinked classes program
+  pub no_form : (labels : Labels) → ¬ IsFirstForm program files.policy labels
+
+-- what refuses the files: in the files themselves, in their classes together, or that no form is built that they are in
+pub data IsRefusalOf (files : ProgramFiles) : Refusal → Type 0 where
+  in_files : (refusal : Refusal) → RefusesFiles files refusal → IsRefusalOf files refusal
+  in_classes : (classes : List ClassFile) (refusal : Refusal) → HaveClasses files classes → RefusesClasses classes refusal
+      → IsRefusalOf files refusal
+  in_no_form : IsNoForm files → IsRefusalOf files (Input faults.NotBuilt)
 
 abbrev pub CheckRefuses : Held → ProgramNames → Refusal → Type 0
 CheckRefuses held names refusal =
@@ -151,26 +165,33 @@ CheckRefuses held names refusal =
 
 -- ---- what the parts of the code say
 
--- a class that was read from some file
-abbrev pub IsReadClass : ClassFile → Type 0
-IsReadClass class = (bytes : List ℕ) × IsClass bytes class
+abbrev pub link_stop_by : Option LinkKind → List ℕ → Stop
+link_stop_by None name = Memory
+link_stop_by (Some kind) name = Faulty (Input (faults.Link kind name))
 
--- the class is one of its own below java/lang/Object, and this is its program
-pub record MakesProgram (class : ClassFile) (program : Program) : Type 0 where
-  pub bare : is_bare class ≡ true
-  pub own_name : is_of_prelude class ≡ false
-  pub superclass : is_under_object class ≡ true
-  pub program_is : program ≡ program_of class
+abbrev pub link_stop : LinkFault → Stop
+link_stop fault = link_stop_by (kind_of fault.code) fault.name
 
--- each of the methods but the entry is native
-abbrev pub HasOneCode : List Method → ℕ → Type 0
-HasOneCode methods entry =
-    (m : ℕ) (method : Method) → slice_get methods m ≡ Some method
-    → (m ≡ entry) ⊎ (has_flag native_flag method.flags ≡ true)
+-- why classes make no program, unless memory is wanting
+abbrev pub IsLinkStop : List ClassFile → Stop → Type 0
+IsLinkStop classes (Faulty refusal) = RefusesClasses classes refusal
+IsLinkStop classes (Unread unread) = ⊥
+IsLinkStop classes Memory = ⊤
 
--- the entry's code is the only one, plain and typed
+-- the limits of a method's code
+abbrev pub HasLimits : Program → ℕ → ℕ → ℕ → Type 0
+HasLimits program m stack locals =
+    (code : Code) → code_at program m ≡ Some code → (code.max_stack ≡ stack) × (code.max_locals ≡ locals)
+
+-- the limits of a method's code are numbers of 16 bits
+abbrev pub HasShortLimits : Program → ℕ → Type 0
+HasShortLimits program m =
+    (code : Code) → code_at program m ≡ Some code → (code.max_stack < 2 ^ 16) × (code.max_locals < 2 ^ 16)
+
+-- the entry's code is the only one, catches nothing, and is plain and typed
 pub record IsFormOf (program : Program) (labels : Labels) : Type 0 where
-  pub one_code : HasOneCode program.methods labels.entry
+  pub one_code : HasOneCode program labels.entry
+  pub no_rows : CatchesNothing program labels.entry
   pub plain : (code : Code) × (code_at program labels.entry ≡ Some code)
       × IsPlainFrom program labels labels.entry code 0
   pub typed : IsTyped program labels.entry
@@ -181,15 +202,13 @@ IsVerdict program labels NotBuilt = ⊥
 IsVerdict program labels Accepted = IsClean program labels
 IsVerdict program labels (Refused text) = IsReportOf program labels text.items
 
--- the decision on a class and a policy
-abbrev pub IsDecision : ClassFile → List ℕ → Decision → Type 0
-IsDecision class policy NotBuilt =
-    (program : Program) (labels : Labels) → ¬ IsFirstForm class policy program labels
-IsDecision class policy Accepted =
-    (program : Program) × (labels : Labels) × IsFirstForm class policy program labels × IsClean program labels
-IsDecision class policy (Refused text) =
-    (program : Program) × (labels : Labels) × IsFirstForm class policy program labels
-    × IsReportOf program labels text.items
+-- the decision on a program and a policy
+abbrev pub IsDecision : Program → List ℕ → Decision → Type 0
+IsDecision program policy NotBuilt = (labels : Labels) → ¬ IsFirstForm program policy labels
+IsDecision program policy Accepted =
+    (labels : Labels) × IsFirstForm program policy labels × IsClean program labels
+IsDecision program policy (Refused text) =
+    (labels : Labels) × IsFirstForm program policy labels × IsReportOf program labels text.items
 
 -- what is shown of a decision
 abbrev pub IsShown : Decision → Result Answer Stop → Type 0

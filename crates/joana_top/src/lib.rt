@@ -6,6 +6,6 @@ mod process;
 mod top;
 mod words;
 
-pub use joana_base::{InputFault, LimitKind, OutsideFault, Status};
+pub use joana_base::{InputFault, LimitKind, LinkKind, OutsideFault, Status};
 pub use process::run;
 pub use top::joana;

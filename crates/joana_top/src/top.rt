@@ -37,7 +37,7 @@ fn no_words<N: Sink>(notes: &mut N) -> Status
 fn refused<N: Sink>(alloc: Global, notes: &mut N, refusal: Refusal) -> Status
     ensures { IsNoted (Faulty refusal) result (sink_change N.given N.faults notes.old notes.new) }
 {
-    let line = match refusal_line(alloc, refusal) {
+    let line = match refusal_line(alloc, &refusal) {
         Ok(line) => line,
         Err(_) => return Status::Memory,
     };
@@ -62,12 +62,12 @@ fn unread<N: Sink>(alloc: Global, notes: &mut N, unread: &Unread) -> Status
 }
 
 /// The status of a command that shows nothing.
-fn stopped<N: Sink>(alloc: Global, notes: &mut N, stop: &Stop) -> Status
-    ensures { IsNoted stop.now result (sink_change N.given N.faults notes.old notes.new) }
+fn stopped<N: Sink>(alloc: Global, notes: &mut N, stop: Stop) -> Status
+    ensures { IsNoted stop result (sink_change N.given N.faults notes.old notes.new) }
 {
     match stop {
-        Stop::Faulty(refusal) => refused(alloc, notes, *refusal),
-        Stop::Unread(failed) => unread(alloc, notes, failed),
+        Stop::Faulty(refusal) => refused(alloc, notes, refusal),
+        Stop::Unread(failed) => unread(alloc, notes, &failed),
         Stop::Memory => Status::Memory,
     }
 }
@@ -128,6 +128,6 @@ pub fn joana<F: Files, S: Sink, N: Sink>(
     };
     match run_command(alloc, files, command) {
         Ok(answer) => put_answer(out, notes, &answer),
-        Err(stop) => stopped(alloc, notes, &stop),
+        Err(stop) => stopped(alloc, notes, stop),
     }
 }

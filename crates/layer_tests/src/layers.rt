@@ -10,18 +10,20 @@ use jo_prog::program::Program;
 use jo_prog::runner::run;
 use jo_prog::runs::{Event, Inputs, SourceInput, Trace};
 use jo_prog::spelling::push_method;
-use linker::single::link_one;
+use linker::link;
 use samples::worked_class;
 use std::alloc::Global;
 use std::process::Abort;
 use std::test::Fail;
 
-// Main's methods are secret, get, show and main, in this order.
+// Behind the 47 methods of the prelude stand Main's: secret, get, show and main.
 fn program(alloc: Global) -> Result<Option<Program>, Memory> {
+    let mut classes = Vec::new(alloc);
     match read_class(alloc, worked_class()) {
-        Ok(class) if class.methods.as_slice().len() == 4 => Ok(Some(link_one(alloc, &class)?)),
-        _ => Ok(None),
+        Ok(class) => classes.push(class)?,
+        Err(_) => return Ok(None),
     }
+    Ok(link(alloc, classes).ok())
 }
 
 const LEVELS: &str = "levels = [\"low\", \"high\"]";
@@ -42,14 +44,14 @@ fn plain(item: &(MethodId, Label)) -> (u32, &'static str, u32) {
     }
 }
 
-// The program has four methods, which is few enough.
+// The program has 51 methods, which is few enough.
 fn read(
     rt: &impl Abort,
     alloc: Global,
     text: &[u8],
     program: &Program,
 ) -> Result<Option<Labels>, Memory> {
-    assert_eq!(rt; program.methods.as_slice().len(), 4);
+    assert_eq!(rt; program.methods.as_slice().len(), 51);
     read_policy(alloc, text, program)
 }
 
@@ -72,8 +74,8 @@ fn a_small_policy_is_read(rt: HostRuntime) -> Result<(), Fail> {
     assert_eq!(rt; labels.levels.as_slice().len(), 2);
     assert_eq!(rt; labels.flows.as_slice(), [(0u32, 1u32)].as_slice());
     assert_eq!(rt; labels.observers.as_slice().len(), 2);
-    assert_eq!(rt; labels.entry.number(), 3);
-    let wanted = [(0u32, "source", 1u32), (1, "source", 0), (2, "sink", 0)];
+    assert_eq!(rt; labels.entry.number(), 50);
+    let wanted = [(47u32, "source", 1u32), (48, "source", 0), (49, "sink", 0)];
     assert_eq!(rt; labels.labelled.as_slice().len(), wanted.len());
     for (item, wanted) in labels.labelled.as_slice().iter().zip(wanted.iter()) {
         let (number, word, level) = plain(item);
@@ -184,7 +186,12 @@ fn a_policy_with_a_fault_is_none(rt: HostRuntime) -> Result<(), Fail> {
 fn methods_and_nodes_are_spelled(rt: HostRuntime) -> Result<(), Fail> {
     let alloc = rt.alloc();
     let program = program(alloc)?.ok_or("a class")?;
-    for (number, wanted) in [(2, "Main.show(I)V"), (3, "Main.main()V"), (9, "")] {
+    for (number, wanted) in [
+        (0, "java/lang/Object.<init>()V"),
+        (49, "Main.show(I)V"),
+        (50, "Main.main()V"),
+        (60, ""),
+    ] {
         let mut text = Vec::new(alloc);
         push_method(&mut text, &program, Id::of(number))?;
         assert_eq!(rt; text.as_slice(), wanted.as_bytes(), "method {number}");
@@ -197,7 +204,7 @@ fn methods_and_nodes_are_spelled(rt: HostRuntime) -> Result<(), Fail> {
         (NodeKind::Thrown, "Main.main()V [] thrown"),
     ] {
         let name = NodeName {
-            method: Id::of(3),
+            method: Id::of(50),
             sites: SiteList {
                 len: 0,
                 first: Id::of(0),
@@ -250,8 +257,8 @@ fn outcome(
     schedule: &[u32],
 ) -> Result<(Option<(u32, i32)>, bool), Fail> {
     let mut inputs: Inputs = List::new(alloc);
-    add(&mut inputs, gives(alloc, 1, got)?)?;
-    add(&mut inputs, gives(alloc, 0, Some(7))?)?;
+    add(&mut inputs, gives(alloc, 48, got)?)?;
+    add(&mut inputs, gives(alloc, 47, Some(7))?)?;
     let trace = run(alloc, program, labels, &inputs, schedule)?;
     Ok((shown(&trace)?, trace.ended))
 }
@@ -274,7 +281,7 @@ fn a_class_is_run(rt: HostRuntime) -> Result<(), Fail> {
     let numbers = [0, 7, 1, 4294967295, 2, 0, 3, 5, 0];
     assert_eq!(rt;
         outcome(alloc, &program, &labels, Some(5), &numbers)?,
-        (Some((2, 6)), true)
+        (Some((49, 6)), true)
     );
     assert_eq!(rt;
         outcome(alloc, &program, &labels, Some(5), &numbers[..7])?,
@@ -282,19 +289,19 @@ fn a_class_is_run(rt: HostRuntime) -> Result<(), Fail> {
     );
     assert_eq!(rt;
         outcome(alloc, &program, &labels, Some(5), &numbers[..8])?,
-        (Some((2, 6)), false)
+        (Some((49, 6)), false)
     );
     assert_eq!(rt;
         outcome(alloc, &program, &labels, Some(5), &[9; 12])?,
-        (Some((2, 6)), true)
+        (Some((49, 6)), true)
     );
     assert_eq!(rt;
         outcome(alloc, &program, &labels, Some(i32::MAX), &numbers)?,
-        (Some((2, i32::MIN)), true)
+        (Some((49, i32::MIN)), true)
     );
     assert_eq!(rt;
         outcome(alloc, &program, &labels, None, &numbers)?,
-        (Some((2, 1)), true)
+        (Some((49, 1)), true)
     );
     Ok(())
 }

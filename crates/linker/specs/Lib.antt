@@ -1,5 +1,4 @@
 pub mod Linking
-pub mod SingleClass
 pub mod LinkFaults
 pub mod NeededClasses
 pub mod KnownNames

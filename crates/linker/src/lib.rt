@@ -8,7 +8,6 @@ pub mod names;
 pub mod needs;
 mod operands;
 mod programs;
-pub mod single;
 #[cfg(test)]
 mod tests;
 mod texts;

@@ -1,62 +1,35 @@
 //! `check CLASSES POLICY`: the verdict.
-ghost use Rattle.std.specs.Prelude.{◌≡◌, ◌<◌, ◌^◌, ◌↔◌, IfOk, IfNone, IfSome, IsTrue, unwrap_or, [], map, length};
-ghost use Rattle.std.specs.List.{list_all, list_any};
-ghost use Rattle.std.specs.Str.{bytes_eq};
-ghost use Rattle.class_pool.specs.Pool.{class_name_at};
-ghost use Rattle.jo_prog.specs.declared.program.Program.{Program};
+ghost use Rattle.std.specs.Prelude.{◌≡◌, ◌<◌, ◌^◌, ◌↔◌, IfOk, IfErr, IfNone, IfSome, IsTrue, length};
+ghost use Rattle.class_pool.specs.declared.classes.ClassFile.{ClassFile};
+ghost use Rattle.jo_prog.specs.Program.{HasNumbers};
 ghost use Rattle.jo_prog.specs.PlainCode.{IsPlainProgram};
 ghost use Rattle.flow_graph.specs.Building.{HasShortCode};
 ghost use Rattle.joana_base.specs.Files.{names_of};
-ghost use Rattle.joana_base.specs.Reading.{files_change, in_bytes, AreReadable, AfterProgramReads};
+ghost use Rattle.joana_base.specs.Reading.{files_change, in_bytes, AfterProgramReads};
+ghost use Rattle.joana_base.specs.Files.{AreReadable};
 ghost use Rattle.joana_base.specs.declared.answers.Stop.TheVariants.{Faulty};
 ghost use Rattle.joana_base.specs.declared.status.Refusal.TheVariants.{Input};
 ghost use Rattle.joana_base.specs.declared.status.InputFault.TheVariants.{NotBuilt};
-ghost use Rattle.joana_top.specs.Check.{has_no_rows, is_bare, is_of_prelude, is_under_object, IsReadClass, MakesProgram, HasOneCode, IsFormOf, IsVerdict, IsDecision, IsShown, IsFilesOutcome, IsCheckOutcome};
+ghost use Rattle.joana_top.specs.Check.{kind_of, link_stop, has_file_code, IsLinked, IsLinkStop, HasOneCode, CatchesNothing, HasLimits, HasShortLimits, IsFormOf, IsVerdict, IsDecision, IsShown, IsFilesOutcome, IsCheckOutcome};
 
-use class_pool::{ClassFile, CodeInfo, MethodInfo, class_name_at};
+use class_pool::ClassFile;
 use flow_graph::sdg;
 use jo_ids::MethodId;
-use jo_insn::ACC_NATIVE;
 use jo_io::Files;
 use jo_policy::read_policy;
+use jo_prog::files::is_of_files;
 use jo_prog::jvm_typing;
 use jo_prog::labels::Labels;
-use jo_prog::program::{Method, Program};
+use jo_prog::program::{Method, Program, code_at};
 use joana_base::{
-    Answer, InputFault, ProgramFiles, ProgramNames, Refusal, Stop, classes_of, read_program,
+    Answer, InputFault, LinkKind, ProgramFiles, ProgramNames, Refusal, Stop, classes_of,
+    read_program,
 };
-use linker::single::link_one;
+use linker::{LinkCode, LinkFault, link};
 use low_run::refusal;
 use std::alloc::{AllocError as Memory, Global};
 
-/// The classes of the prelude, all of them in java/lang.
-const PRELUDE: [&str; 23] = [
-    "java/lang/Object",
-    "java/lang/String",
-    "java/lang/Runnable",
-    "java/lang/Thread",
-    "java/lang/Throwable",
-    "java/lang/Exception",
-    "java/lang/Error",
-    "java/lang/RuntimeException",
-    "java/lang/ArithmeticException",
-    "java/lang/NullPointerException",
-    "java/lang/ClassCastException",
-    "java/lang/IndexOutOfBoundsException",
-    "java/lang/ArrayStoreException",
-    "java/lang/NegativeArraySizeException",
-    "java/lang/IllegalArgumentException",
-    "java/lang/IllegalStateException",
-    "java/lang/IllegalMonitorStateException",
-    "java/lang/UnsupportedOperationException",
-    "java/lang/ArrayIndexOutOfBoundsException",
-    "java/lang/IllegalThreadStateException",
-    "java/lang/InterruptedException",
-    "java/lang/LinkageError",
-    "java/lang/IncompatibleClassChangeError",
-];
-
-/// What there is to say of the class and the policy.
+/// What there is to say of the program and the policy.
 #[derive(Drop)]
 enum Decision {
     NotBuilt,
@@ -65,111 +38,104 @@ enum Decision {
     Refused(Vec<u8>),
 }
 
-/// The name that a class entry of the file names, empty where there is none.
-fn name_at(file: &ClassFile, index: u16) -> &[u8]
-    ensures { result.now ≡ unwrap_or (class_name_at file.now.pool index) [] }
+/// The kind of a fault. Want of memory is none.
+fn kind_of(code: LinkCode) -> Option<LinkKind>
+    ensures { result ≡ kind_of code }
 {
-    match class_name_at(file.pool.as_slice(), index) {
-        Some(name) => name,
-        None => b"",
+    match code {
+        LinkCode::TwiceDefined => Some(LinkKind::TwiceDefined),
+        LinkCode::MissingClass => Some(LinkKind::MissingClass),
+        LinkCode::CyclicSuper => Some(LinkKind::CyclicSuper),
+        LinkCode::MissingMember => Some(LinkKind::MissingMember),
+        LinkCode::NotImplemented => Some(LinkKind::NotImplemented),
+        LinkCode::InterfaceBody => Some(LinkKind::InterfaceBody),
+        LinkCode::StaticInit => Some(LinkKind::StaticInit),
+        LinkCode::Memory => None,
     }
 }
 
-/// Whether the text is one of the names.
-fn is_among(names: &[&str], text: &[u8]) -> bool
-    ensures { result ≡ list_any (λ name. bytes_eq name text.now) (map (λ name. name.now) names.now) }
+/// The stop at class files that make no program.
+fn link_stop(fault: LinkFault) -> Stop
+    ensures { result ≡ link_stop fault }
 {
-    for name in names {
-        if name.as_bytes() == text {
-            return true;
-        }
-    }
-    false
-}
-
-/// Whether the class has a name of the prelude's.
-fn is_of_prelude(file: &ClassFile) -> bool
-    ensures { result ≡ is_of_prelude file.now }
-{
-    is_among(&PRELUDE, name_at(file, file.this_class))
-}
-
-fn is_under_object(file: &ClassFile) -> bool
-    ensures { result ≡ is_under_object file.now }
-{
-    name_at(file, file.super_class) == b"java/lang/Object".as_slice()
-}
-
-/// Whether no row catches an exception.
-fn has_no_rows(body: &Option<CodeInfo>) -> bool
-    ensures { result ≡ has_no_rows body.now }
-{
-    match body {
-        Some(code) => code.rows.as_slice().is_empty(),
-        None => true,
+    match kind_of(fault.code) {
+        Some(kind) => Stop::Faulty(Refusal::Input(InputFault::Link(kind, fault.name))),
+        None => Stop::Memory,
     }
 }
 
-/// Whether no method has such a row.
-fn have_no_rows(methods: &[MethodInfo]) -> bool
-    ensures { result ≡ list_all (λ m. has_no_rows m.code) methods.now }
+/// The program of the class files.
+fn linked(alloc: Global, classes: Vec<ClassFile>) -> Result<Program, Stop>
+    ensures program { IfOk result (IsLinked classes.items) }
+    ensures numbers { IfOk result HasNumbers }
+    ensures stop { IfErr result (IsLinkStop classes.items) }
 {
-    methods.iter().all(|method| has_no_rows(&method.code))
-}
-
-/// Whether the class has no interfaces, no fields and no exception rows.
-fn is_bare(file: &ClassFile) -> bool
-    ensures { result ≡ is_bare file.now }
-{
-    let no_parts = file.interfaces.as_slice().is_empty() && file.fields.as_slice().is_empty();
-    no_parts && have_no_rows(file.methods.as_slice())
-}
-
-/// The program of a class, where it is one of its own below java/lang/Object with methods alone.
-fn program_of(alloc: Global, class: &ClassFile) -> Result<Option<Program>, Memory>
-    requires { IsReadClass class.now }
-    ensures program { IfOk result (λ found. IfSome found (MakesProgram class.now)) }
-    ensures none { IfOk result (λ found.
-        IfNone found ((program : Program) → ¬ MakesProgram class.now program)) }
-{
-    if !is_bare(class) {
-        return Ok(None);
-    }
-    if is_of_prelude(class) {
-        return Ok(None);
-    }
-    if !is_under_object(class) {
-        return Ok(None);
-    }
-    match link_one(alloc, class) {
-        Ok(program) => Ok(Some(program)),
-        Err(memory) => Err(memory),
+    match link(alloc, classes) {
+        Ok(program) => Ok(program),
+        Err(fault) => Err(link_stop(fault)),
     }
 }
 
-/// Whether every method but the entry is native.
-fn has_one_code(methods: &[Method], entry: MethodId) -> bool
-    ensures { IsTrue result ↔ HasOneCode methods.now entry }
+/// Whether the method has code and is one of the class files.
+fn has_file_code(program: &Program, method: &Method) -> bool
+    ensures { result ≡ has_file_code program.now method.now }
 {
-    for (place, method) in methods.iter().enumerate() {
-        if place != entry.number() as usize && method.flags & ACC_NATIVE == 0 {
+    method.code.is_some() && is_of_files(program, method)
+}
+
+/// Whether no method of the class files but the entry has code.
+fn has_one_code(program: &Program, entry: MethodId) -> bool
+    ensures { IsTrue result ↔ HasOneCode program.now entry }
+{
+    for (place, method) in program.methods.as_slice().iter().enumerate() {
+        if place != entry.number() as usize && has_file_code(program, method) {
             return false;
         }
     }
     true
 }
 
+/// Whether the entry's code catches nothing.
+fn catches_nothing(program: &Program, entry: MethodId) -> bool
+    ensures { IsTrue result ↔ CatchesNothing program.now entry }
+{
+    match code_at(program, entry) {
+        Some(code) => code.rows.as_slice().is_empty(),
+        None => true,
+    }
+}
+
 /// Whether the program with these labels is of the first form.
 fn is_first_form(alloc: Global, program: &Program, labels: &Labels) -> Result<bool, Memory>
     ensures { IfOk result (λ yes. IsTrue yes ↔ IsFormOf program.now labels.now) }
 {
-    if !has_one_code(program.methods.as_slice(), labels.entry) {
+    if !has_one_code(program, labels.entry) {
+        return Ok(false);
+    }
+    if !catches_nothing(program, labels.entry) {
         return Ok(false);
     }
     if !jvm_typing::is_plain(program, labels) {
         return Ok(false);
     }
     jvm_typing::is_typed(alloc, program, labels)
+}
+
+/// The limits of a method's code.
+fn limits_of(program: &Program, method: MethodId) -> (u16, u16)
+    ensures { HasLimits program.now method result.0 result.1 }
+{
+    match code_at(program, method) {
+        Some(code) => (code.max_stack, code.max_locals),
+        None => (0, 0),
+    }
+}
+
+/// Says of these limits that they are numbers of 16 bits.
+fn limits_are_short(program: &Program, method: MethodId)
+    ensures { HasShortLimits program.now method }
+{
+    let (_stack, _locals) = limits_of(program, method);
 }
 
 /// The verdict on a program of the first form.
@@ -185,23 +151,20 @@ fn verdict(alloc: Global, program: &Program, labels: &Labels) -> Result<Decision
     }
 }
 
-/// The verdict on a class and a policy.
-fn decide(alloc: Global, class: &ClassFile, policy: &[u8]) -> Result<Decision, Memory>
-    requires { IsReadClass class.now }
-    ensures { IfOk result (IsDecision class.now policy.now) }
+/// The verdict on a program and a policy.
+fn decide(alloc: Global, program: &Program, policy: &[u8]) -> Result<Decision, Memory>
+    requires { length program.now.methods < 2 ^ 32 }
+    ensures { IfOk result (IsDecision program.now policy.now) }
 {
-    let program = match program_of(alloc, class)? {
-        Some(program) => program,
-        None => return Ok(Decision::NotBuilt),
-    };
-    let labels = match read_policy(alloc, policy, &program)? {
+    let labels = match read_policy(alloc, policy, program)? {
         Some(labels) => labels,
         None => return Ok(Decision::NotBuilt),
     };
-    if !is_first_form(alloc, &program, &labels)? {
+    if !is_first_form(alloc, program, &labels)? {
         return Ok(Decision::NotBuilt);
     }
-    match verdict(alloc, &program, &labels) {
+    limits_are_short(program, labels.entry);
+    match verdict(alloc, program, &labels) {
         Ok(decision) => Ok(decision),
         Err(memory) => Err(memory),
     }
@@ -237,10 +200,11 @@ fn check_files(alloc: Global, files: &ProgramFiles) -> Result<Answer, Stop>
         Ok(classes) => classes,
         Err(stop) => return Err(stop),
     };
-    let [class] = classes.as_slice() else {
-        return Err(not_built());
+    let program = match linked(alloc, classes) {
+        Ok(program) => program,
+        Err(stop) => return Err(stop),
     };
-    match decide(alloc, class, files.policy.as_slice()) {
+    match decide(alloc, &program, files.policy.as_slice()) {
         Ok(decision) => shown(alloc, decision),
         Err(_) => Err(Stop::Memory),
     }
