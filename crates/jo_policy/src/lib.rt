@@ -14,3 +14,6 @@ pub mod whole;
 pub use policy_tree::{ContextsKey, LevelFault, PolicyFault, RunFileFault};
 pub use reader::read_policy;
 pub use run_file::{RunPlan, read_run};
+
+#[cfg(test)]
+mod tests;
