@@ -210,8 +210,10 @@ fn joined(alloc: Global, head: &str, tables: &str) -> Result<Vec<u8>, Memory> {
 
 /// What a policy's text gives to a program.
 fn read(alloc: Global, program: &Program, text: &[u8]) -> Result<whole::Policy, PolicyFault> {
-    let few = program.methods.as_slice().len() <= 100 && program.classes.as_slice().len() <= 100;
-    if !few || text.len() > 100_000 {
+    if program.methods.as_slice().len() > 100 {
+        return Err(PolicyFault::Memory);
+    }
+    if program.classes.as_slice().len() > 100 {
         return Err(PolicyFault::Memory);
     }
     if !has_its_parents(program) {
@@ -429,17 +431,18 @@ const RELEASE: &str =
 /// call that may start a thread.
 fn told_of_call(alloc: Global, op: u8, owner: u32, called: &str) -> Result<(u32, u32), Memory> {
     let program = with_call(alloc, "(I)I", op, owner, called)?;
-    Ok(match read(alloc, &program, RELEASE.as_bytes()) {
-        Ok(_) => (0, 0),
+    let answer = read(alloc, &program, RELEASE.as_bytes());
+    match &answer {
+        Ok(_) => Ok((0, 0)),
         Err(PolicyFault::ReleaseWithThreads(method, pc)) => {
             if method.number() == 2 {
-                (10, pc)
+                Ok((10, *pc))
             } else {
-                (10, 99)
+                Ok((10, 99))
             }
         }
-        Err(fault) => (code_of(&fault), 0),
-    })
+        Err(fault) => Ok((code_of(fault), 0)),
+    }
 }
 
 #[test]
