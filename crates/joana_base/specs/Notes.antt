@@ -10,9 +10,11 @@ use Rattle.class_pool.specs.declared.faults.ClassFault.{ClassFault}
 use Rattle.class_asm.specs.declared.assembly.AsmFault.{AsmFault}
 use Rattle.class_asm.specs.declared.assembly.AsmFault.TheVariants as texts
 use Rattle.joana_base.specs.declared.status.InputFault.{InputFault}
-use Rattle.joana_base.specs.declared.status.InputFault.TheVariants.{NotBuilt, ClassList, Class, Link, Asm}
+use Rattle.joana_base.specs.declared.status.InputFault.TheVariants.{NotBuilt, ClassList, Class, Link, Policy, Asm}
 use Rattle.joana_base.specs.declared.status.LinkKind.{LinkKind}
 use Rattle.joana_base.specs.declared.status.LinkKind.TheVariants.{TwiceDefined, MissingClass, CyclicSuper, MissingMember, NotImplemented, InterfaceBody, StaticInit}
+use Rattle.joana_base.specs.declared.status.PolicyKind.{PolicyKind}
+use Rattle.joana_base.specs.declared.status.PolicyKind.TheVariants as policies
 use Rattle.jo_ids.specs.declared.LimitKind.{LimitKind}
 use Rattle.jo_ids.specs.declared.LimitKind.TheVariants.{M1, M2, M3, M4, M5, M6, M7}
 use Rattle.joana_base.specs.declared.status.Refusal.{Refusal}
@@ -79,11 +81,26 @@ link_word StaticInit = codes "L7"
 abbrev pub link_words : LinkKind → List ℕ → List ℕ
 link_words kind name = link_word kind ++ 32 ∷ escaped name
 
+-- the fault of a policy, before what it carries
+abbrev pub policy_word : PolicyKind → List ℕ
+policy_word policies.NotToml = codes "P1"
+policy_word policies.Key = codes "P2"
+policy_word policies.UnknownLevel = codes "P3"
+policy_word policies.Order = codes "P4"
+policy_word policies.MissingMethod = codes "P5"
+policy_word policies.WrongShape = codes "P6"
+policy_word policies.UnlabelledNative = codes "P7"
+policy_word policies.TwiceLabelled = codes "P8"
+policy_word policies.ReleaseUpward = codes "P9"
+policy_word policies.ReleaseWithThreads = codes "P10"
+policy_word policies.Entry = codes "P11"
+
 abbrev pub fault_words : InputFault → List ℕ
 fault_words NotBuilt = codes "NotBuilt"
 fault_words (ClassList place) = codes "B1 " ++ decimal place
 fault_words (Class file fault) = class_words file fault
 fault_words (Link kind name) = link_words kind name
+fault_words (Policy kind carried) = policy_word kind ++ carried
 fault_words (Asm fault) = asm_words fault
 
 abbrev pub limit_word : LimitKind → List ℕ

@@ -3,7 +3,7 @@ ghost use Rattle.std.specs.Prelude.{◌≡◌, ◌++◌, OnOk, IfOk, codes};
 ghost use Rattle.std.specs.Fmt.{decimal};
 ghost use Rattle.joana_base.specs.Notes;
 
-use crate::status::{InputFault, LimitKind, LinkKind, Refusal};
+use crate::status::{InputFault, LimitKind, LinkKind, PolicyKind, Refusal};
 use class_asm::AsmFault;
 use class_pool::{ClassCode, ClassFault, Cut};
 use jo_text::{Name, push_escaped};
@@ -123,6 +123,32 @@ fn push_link_fault(out: &mut Vec<u8>, kind: LinkKind, name: &Name) -> Result<(),
     push_escaped(out, name.as_slice())
 }
 
+fn policy_word(kind: PolicyKind) -> &'static [u8]
+    ensures { result.now ≡ Notes.policy_word kind }
+{
+    match kind {
+        PolicyKind::NotToml => b"P1",
+        PolicyKind::Key => b"P2",
+        PolicyKind::UnknownLevel => b"P3",
+        PolicyKind::Order => b"P4",
+        PolicyKind::MissingMethod => b"P5",
+        PolicyKind::WrongShape => b"P6",
+        PolicyKind::UnlabelledNative => b"P7",
+        PolicyKind::TwiceLabelled => b"P8",
+        PolicyKind::ReleaseUpward => b"P9",
+        PolicyKind::ReleaseWithThreads => b"P10",
+        PolicyKind::Entry => b"P11",
+    }
+}
+
+/// The fault of a policy, which carries this.
+fn push_policy_fault(out: &mut Vec<u8>, kind: PolicyKind, carried: &Name) -> Result<(), Memory>
+    ensures { OnOk result (out.new.items ≡ out.old.items ++ (Notes.policy_word kind ++ carried.now)) }
+{
+    out.extend_from_slice(policy_word(kind))?;
+    out.extend_from_slice(carried.as_slice())
+}
+
 fn push_fault(alloc: Global, out: &mut Vec<u8>, fault: &InputFault) -> Result<(), Memory>
     ensures { OnOk result (out.new.items ≡ out.old.items ++ Notes.fault_words fault.now) }
 {
@@ -131,6 +157,7 @@ fn push_fault(alloc: Global, out: &mut Vec<u8>, fault: &InputFault) -> Result<()
         InputFault::ClassList(place) => push_at(alloc, out, b"B1 ", *place),
         InputFault::Class(file, fault) => push_class_fault(alloc, out, *file, *fault),
         InputFault::Link(kind, name) => push_link_fault(out, *kind, name),
+        InputFault::Policy(kind, carried) => push_policy_fault(out, *kind, carried),
         InputFault::Asm(fault) => push_asm_fault(alloc, out, *fault),
     }
 }

@@ -42,6 +42,28 @@ pub enum LinkKind {
     StaticInit,
 }
 
+/// Kinds of faults of a policy.
+#[derive(Clone, Copy, PartialEq, Eq, Debug)]
+pub enum PolicyKind {
+    NotToml,
+    /// The key is unknown or missing, or its value is of another kind.
+    Key,
+    UnknownLevel,
+    /// The levels make no order.
+    Order,
+    /// No method of the files is spelled so.
+    MissingMethod,
+    /// The method isn't a static native of its label's descriptor.
+    WrongShape,
+    UnlabelledNative,
+    TwiceLabelled,
+    /// The release's `to` doesn't flow to its `from`.
+    ReleaseUpward,
+    /// There is a release, and the call at that pc may start a thread.
+    ReleaseWithThreads,
+    Entry,
+}
+
 /// What is wrong with the input.
 #[derive(Drop)]
 pub enum InputFault {
@@ -53,6 +75,9 @@ pub enum InputFault {
     Class(u32, ClassFault),
     /// The class files make no program, for the class with this name.
     Link(LinkKind, Name),
+    /// The first fault of the policy, and what it carries as it is printed: names, levels, methods and pcs, each behind
+    /// a space.
+    Policy(PolicyKind, Name),
     /// The first fault of an assembly text.
     Asm(AsmFault),
 }

@@ -149,11 +149,6 @@ fn other_classes_are_not_built(rt: HostRuntime) -> Result<(), Fail> {
         with_class(alloc, 193, 3, &[0xb1, 0xb1, 0xb1])?.as_str(),
         NOT_BUILT
     );
-    // a name that no label spells
-    assert_eq!(rt;
-        with_class(alloc, 48, 2, &[0xc3, 0xa9])?.as_str(),
-        NOT_BUILT
-    );
     // a row of the exception table
     let row = [0, 1, 0, 0, 0, 3, 0, 0, 0, 0];
     let caught = changed(edited(alloc, 200, 2, &row)?, 176, 0x23);
@@ -226,35 +221,64 @@ fn attributes_and_other_characters_are_taken(rt: HostRuntime) -> Result<(), Fail
 }
 
 #[test]
-fn other_policies_and_lists_are_not_built(rt: HostRuntime) -> Result<(), Fail> {
+fn policies_may_be_any(rt: HostRuntime) -> Result<(), Fail> {
     let alloc = rt.alloc();
+    // three levels, a level that flows to itself, contexts, an observer
     let three = "levels = [\"low\", \"high\", \"top\"]\nentry = \"Main.main()V\"\n";
     assert_eq!(rt;
         with_policy(alloc, three, worked_labels(), "c")?.as_str(),
-        NOT_BUILT
+        DONE
     );
     let two =
         "levels = [\"low\", \"high\"]\nflows = [[\"low\", \"high\"], [\"low\", \"low\"]]\nentry = \"Main.main()V\"\n";
     assert_eq!(rt;
         with_policy(alloc, two, worked_labels(), "c")?.as_str(),
-        NOT_BUILT
+        DONE
     );
-    let unknown = "levels = [\"low\", \"high\"]\nentry = \"Main.main()V\"\ncontexts = \"none\"\n";
+    let keys =
+        "levels = [\"low\", \"high\"]\nentry = \"Main.main()V\"\ncontexts = \"none\"\nobservers = [\"high\"]\n";
     assert_eq!(rt;
-        with_policy(alloc, unknown, worked_labels(), "c")?.as_str(),
-        NOT_BUILT
+        with_policy(alloc, keys, worked_labels(), "c")?.as_str(),
+        DONE
     );
+    Ok(())
+}
+
+#[test]
+fn faults_of_policies_are_told(rt: HostRuntime) -> Result<(), Fail> {
+    let alloc = rt.alloc();
+    let head = worked_head();
+    let labels = worked_labels();
     let unlabelled =
         "[sources]\n\"Main.secret()I\" = \"high\"\n[sinks]\n\"Main.show(I)V\" = \"low\"\n";
+    let missing =
+        "[sources]\n\"Main.get()I\" = \"low\"\n\"Main.s%()I\" = \"high\"\n[sinks]\n\"Main.show(I)V\" = \"low\"\n";
+    let other_level = "[sources]\n\"Main.get()I\" = \"a b\"\n";
+    for (head, labels, line) in [
+        ("", "no toml", "3 joana: input P1\n"),
+        ("[levels]\n", "", "3 joana: input P2 levels\n"),
+        (head, other_level, "3 joana: input P3 a%20b\n"),
+        (head, missing, "3 joana: input P5 Main.s%25()I\n"),
+        (head, unlabelled, "3 joana: input P7 Main.get()I\n"),
+    ] {
+        assert_eq!(rt; with_policy(alloc, head, labels, "c")?.as_str(), line);
+    }
+    let cycle =
+        "levels = [\"l\", \"h\"]\nflows = [[\"l\", \"h\"], [\"h\", \"l\"]]\nentry = \"Main.main()V\"\n";
     assert_eq!(rt;
-        with_policy(alloc, worked_head(), unlabelled, "c")?.as_str(),
-        NOT_BUILT
+        with_policy(alloc, cycle, "", "c")?.as_str(),
+        "3 joana: input P4 l h\n"
     );
+    let entry = "levels = [\"low\", \"high\"]\nentry = \"Main.get()I\"\n";
     assert_eq!(rt;
-        with_policy(alloc, worked_head(), worked_labels(), "\n")?.as_str(),
-        NOT_BUILT
+        with_policy(alloc, entry, labels, "c")?.as_str(),
+        "3 joana: input P11\n"
     );
-    assert_eq!(rt; with_policy(alloc, "", "no toml", "c")?.as_str(), NOT_BUILT);
+    // of no class nothing is labelled
+    assert_eq!(rt;
+        with_policy(alloc, head, labels, "\n")?.as_str(),
+        "3 joana: input P5 Main.get()I\n"
+    );
     Ok(())
 }
 

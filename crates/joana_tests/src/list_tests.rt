@@ -130,10 +130,10 @@ fn a_list_is_text(rt: HostRuntime) -> Result<(), Fail> {
         told_of(alloc, b"Main\n\xc3(")?.as_str(),
         "3 joana: input B1 6\n"
     );
-    // a list without a path is one, but makes no program with the entry
+    // a list without a path is one, but no method of the policy is in its program
     assert_eq!(rt;
         told_of(alloc, b"\n")?.as_str(),
-        "3 joana: input NotBuilt\n"
+        "3 joana: input P5 Main.get()I\n"
     );
     Ok(())
 }

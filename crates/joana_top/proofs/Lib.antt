@@ -1,3 +1,4 @@
 pub mod Endings
 pub mod Forms
 pub mod Outcomes
+pub mod StopLemmas

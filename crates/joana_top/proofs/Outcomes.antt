@@ -1,15 +1,12 @@
 -- From the classes of the files and the decision to what a command comes to.
-use Rattle.std.proofs.Common.{◌≡◌, inl, inr, ℕ, ◌<◌, ◌^◌, List, length, Option, Some, None, Result, Ok, Err, refl, sym, subst, arith}
+use Rattle.std.proofs.Common.{◌≡◌, ℕ, ◌<◌, ◌^◌, List, length, Result, Ok, Err, sym, subst, arith}
 use Rattle.std.proofs.lemmas.List.{length-map}
 use Rattle.std.specs.Prelude.{Vec}
 use Rattle.std.specs.declared.alloc.Global.{Global}
 use Rattle.class_pool.specs.declared.classes.ClassFile.{ClassFile}
 use Rattle.jo_prog.specs.declared.program.Program.{Program}
-use Rattle.linker.specs.LinkOrder.{IsLinkFault, IsLinkAnswer}
-use Rattle.linker.specs.declared.causes.LinkCode.{LinkCode}
-use Rattle.linker.specs.declared.causes.LinkFault.{LinkFault}
-use Rattle.joana_base.specs.declared.status.LinkKind.{LinkKind}
 use Rattle.jo_prog.specs.declared.labels.Labels.{Labels}
+use Rattle.jo_prog.specs.PlainCode.{IsWellLabelled}
 use Rattle.low_run.proofs.Verdicts.{clean_graph_secure}
 use Rattle.joana_base.specs.Files.{Held, ProgramNames, ProgramFiles, AreProgramFiles, IsToldAs, classes_of, AreReadable, of_classes, HaveClasses}
 use Rattle.joana_base.specs.Reading.{FilesChange, in_bytes, AfterReads, ReadsProgram, AreClasses, IsUnlessMemory}
@@ -23,10 +20,12 @@ use Rattle.joana_base.specs.declared.answers.Answer.TheVariants.{Yes, No}
 use Rattle.joana_base.specs.declared.answers.Stop.{Stop}
 use Rattle.joana_base.specs.declared.answers.Stop.TheVariants.{Faulty, Unread, Memory}
 use Rattle.joana_top.specs.Answers.{IsOutcome, IsReadOutcome}
-use Rattle.joana_top.specs.Check.{IsLinked, kind_of, of_linking, link_stop_by, link_stop, IsLinkStop, IsFirstForm, IsInput, IsReportOf, IsReportText, IsCheckText, IsCheckAnswer, IsSecureCheck, IsRefusalOf, in_files, in_classes, in_no_form, IsDecision, IsShown, IsFilesOutcome, IsCheckOutcome}
+use Rattle.joana_top.specs.Stops.{IsLinked, IsLinkStop, GivesLabels, IsLabelStop}
+use Rattle.joana_top.specs.Check.{IsReportOf, IsReportText, IsCheckText, IsCheckAnswer, IsSecureCheck, RefusesProgram, of_policy, of_form, in_files, in_classes, in_program, IsDecision, IsShown, IsProgramOutcome, IsFilesOutcome, IsCheckOutcome}
 use Rattle.joana_top.specs.OneFile.{OfFile}
 use Rattle.joana_top.specs.declared.commands.check.Decision.{Decision}
 use Rattle.joana_top.specs.declared.commands.check.Decision.TheVariants as decisions
+use Rattle.joana_top.proofs.Forms.{first_form, form_of}
 
 -- ---- from files that were read to a command
 
@@ -61,16 +60,6 @@ file_outcome IsAnswer IsRefusal held name bytes (Err Memory) told said = tt
 
 -- ---- the classes of a check
 
--- the fault of linking stops the check, unless memory was wanting
-pub link_stopped : (classes : List ClassFile) (fault : LinkFault) → IsLinkAnswer classes fault → IsLinkStop classes (link_stop fault)
-link_stopped classes fault answer =
-    let P : LinkCode → Type 0 = λ code. IsLinkStop classes (link_stop_by (kind_of code) fault.name) in
-    elim answer [ inl wanting ↦ subst P (sym wanting) tt | inr told ↦ by (kind_of fault.code) refl told ]
-  where
-    by : (kind : Option LinkKind) → kind_of fault.code ≡ kind → IsLinkFault classes fault → IsLinkStop classes (link_stop_by kind fault.name)
-    by None is told = tt
-    by (Some kind) is told = of_linking fault kind told is
-
 -- what refuses the class files refuses the check
 pub refused_classes : (files : ProgramFiles) → AreReadable files → (stop : Stop) → IsUnlessMemory {A = List ClassFile} (Err stop) (classes_of files.classes) → IsFilesOutcome files (Err stop)
 refused_classes files ready (Faulty refusal) stopped = in_files refusal (of_classes refusal ready stopped)
@@ -93,27 +82,42 @@ module _ (files : ProgramFiles) (classes : List ClassFile) (passes : HaveClasses
   refused_linking (Unread unread) stopped = absurd stopped
   refused_linking Memory stopped = tt
 
-  module _ (read : AreClasses files.classes classes) (program : Program) (linked : IsLinked classes program) where
-    input : (labels : Labels) → IsFirstForm program files.policy labels → IsInput files program labels
-    input labels form = record { classes = classes; are_classes = read; passes = passes; linked = linked; form = form }
+  -- what is said of the program and the policy is said of the files
+  pub of_program : (read : AreClasses files.classes classes) (program : Program) → IsLinked classes program → (result : Result Answer Stop) → IsProgramOutcome program files.policy result → IsFilesOutcome files result
+  of_program read program linked (Ok (Yes text)) said =
+      (said.0, program, said.1, record { classes = classes; are_classes = read; passes = passes; linked = linked; form = said.2 }, said.3)
+  of_program read program linked (Ok (No text)) said =
+      (program, said.0, record { classes = classes; are_classes = read; passes = passes; linked = linked; form = said.1 }, said.2)
+  of_program read program linked (Err (Faulty refusal)) said = in_program classes program refusal passes linked said
+  of_program read program linked (Err (Unread unread)) said = absurd said
+  of_program read program linked (Err Memory) said = tt
 
-    -- what is shown of the decision says so of the files
-    pub decided : (decision : Decision) (result : Result Answer Stop) → IsDecision program files.policy decision → IsShown decision result → IsFilesOutcome files result
+-- ---- a program and a policy
+
+module _ (program : Program) (policy : List ℕ) where
+  pub refused_policy : (stop : Stop) → IsLabelStop program policy stop → IsProgramOutcome program policy (Err stop)
+  refused_policy (Faulty refusal) stopped = of_policy refusal stopped
+  refused_policy (Unread unread) stopped = absurd stopped
+  refused_policy Memory stopped = tt
+
+  module _ (labels : Labels) (gives : GivesLabels program policy labels) (well : IsWellLabelled program labels) where
+    -- what is shown of the decision says so of the program
+    pub decided : (decision : Decision) (result : Result Answer Stop) → IsDecision program labels decision → IsShown decision result → IsProgramOutcome program policy result
     decided decisions.NotBuilt (Err (Faulty refusal)) none shown =
-        let P : Refusal → Type 0 = IsRefusalOf files in
-        subst P (sym shown) (in_no_form (record { classes = classes; passes = passes; program = program; linked = linked; no_form = none }))
+        let P : Refusal → Type 0 = RefusesProgram program policy in
+        subst P (sym shown) (of_form labels gives (λ form. none (form_of program policy labels form)))
     decided decisions.NotBuilt (Err Memory) none shown = tt
     decided decisions.NotBuilt (Err (Unread unread)) none shown = absurd shown
     decided decisions.NotBuilt (Ok (Yes text)) none shown = absurd shown
     decided decisions.NotBuilt (Ok (No text)) none shown = absurd shown
-    decided decisions.Accepted (Ok (Yes text)) clean shown = (shown, program, clean.0, input clean.0 clean.1, clean.2)
+    decided decisions.Accepted (Ok (Yes text)) clean shown = (shown, labels, first_form program policy labels gives well clean.0, clean.1)
     decided decisions.Accepted (Ok (No text)) clean shown = absurd shown
     decided decisions.Accepted (Err Memory) clean shown = tt
     decided decisions.Accepted (Err (Faulty refusal)) clean shown = absurd shown
     decided decisions.Accepted (Err (Unread unread)) clean shown = absurd shown
     decided (decisions.Refused report) (Ok (No text)) reports shown =
-        let P : List ℕ → Type 0 = IsReportOf program reports.0 in
-        (program, reports.0, input reports.0 reports.1, subst P (sym shown) reports.2)
+        let P : List ℕ → Type 0 = IsReportOf program labels in
+        (labels, first_form program policy labels gives well reports.0, subst P (sym shown) reports.1)
     decided (decisions.Refused report) (Ok (Yes text)) reports shown = absurd shown
     decided (decisions.Refused report) (Err Memory) reports shown = tt
     decided (decisions.Refused report) (Err (Faulty refusal)) reports shown = absurd shown

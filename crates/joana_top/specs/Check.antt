@@ -1,9 +1,6 @@
 -- `check CLASSES POLICY`: the program that the files make, what it shows of it, and what refuses the files. Programs are of the
--- first form: of the methods of the class files the entry alone has code, one straight line, and the policy is small.
-use Rattle.std.specs.Prelude.{◌≡◌, ℕ, ◌^◌, ◌<◌, Bool, ◌&&◌, true, List, [], Option, Some, None, is_some, Result, Ok, Err, codes, ⊤}
-use Rattle.std.specs.Str.{IsUtf8}
-use Rattle.toml.specs.Data.{Members}
-use Rattle.toml.specs.Parse.{parse_document}
+-- first form: of the methods of the class files the entry alone has code, one straight line.
+use Rattle.std.specs.Prelude.{◌≡◌, ℕ, ◌^◌, ◌<◌, Bool, ◌&&◌, true, List, [], Some, is_some, Result, Ok, Err, codes, ⊤}
 use Rattle.class_pool.specs.declared.classes.ClassFile.{ClassFile}
 use Rattle.jo_prog.specs.declared.program.Program.{Program}
 use Rattle.jo_prog.specs.declared.program.Method.{Method}
@@ -13,12 +10,6 @@ use Rattle.jo_prog.specs.Program.{code_at, method_at}
 use Rattle.jo_prog.specs.FileClasses.{is_of_files}
 use Rattle.jo_prog.specs.PlainCode.{IsPlainFrom, IsPlainProgram}
 use Rattle.jo_prog.specs.Typing.{IsTyped}
-use Rattle.linker.specs.Linking.{linked_classes, program_of}
-use Rattle.linker.specs.LinkOrder.{HasNoFault, IsLinkFault}
-use Rattle.linker.specs.declared.causes.LinkFault.{LinkFault}
-use Rattle.linker.specs.declared.causes.LinkCode.{LinkCode}
-use Rattle.linker.specs.declared.causes.LinkCode.TheVariants as links
-use Rattle.jo_policy.specs.PolicyFile.{policy_of}
 use Rattle.dep_nodes.specs.Nodes.{Node}
 use Rattle.dep_nodes.specs.Chains.{Link}
 use Rattle.chain_report.specs.Report.{chain_text}
@@ -29,15 +20,14 @@ use Rattle.joana_base.specs.Reading.{AreClasses}
 use Rattle.joana_base.specs.declared.status.Status.{Status}
 use Rattle.joana_base.specs.declared.status.Status.TheVariants as statuses
 use Rattle.joana_base.specs.declared.status.InputFault.TheVariants as faults
-use Rattle.joana_base.specs.declared.status.LinkKind.{LinkKind}
-use Rattle.joana_base.specs.declared.status.LinkKind.TheVariants as kinds
 use Rattle.joana_base.specs.declared.status.Refusal.{Refusal}
 use Rattle.joana_base.specs.declared.status.Refusal.TheVariants.{Input}
 use Rattle.joana_base.specs.declared.answers.Answer.{Answer}
 use Rattle.joana_base.specs.declared.answers.Answer.TheVariants.{Yes, No}
 use Rattle.joana_base.specs.declared.answers.Stop.{Stop}
-use Rattle.joana_base.specs.declared.answers.Stop.TheVariants.{Faulty, Unread, Memory}
+use Rattle.joana_base.specs.declared.answers.Stop.TheVariants.{Faulty, Memory}
 use Rattle.joana_top.specs.Answers.{IsOutcome, IsReadOutcome}
+use Rattle.joana_top.specs.Stops.{IsLinked, RefusesClasses, GivesLabels, RefusesPolicy}
 use Rattle.joana_top.specs.declared.commands.check.Decision.{Decision}
 use Rattle.joana_top.specs.declared.commands.check.Decision.TheVariants.{NotBuilt, Accepted, Refused}
 
@@ -50,11 +40,6 @@ IsClean program labels = HasCleanGraph program labels
 -- the text reports an illegal chain of the first observer that has one
 abbrev pub IsReportOf : Program → Labels → List ℕ → Type 0
 IsReportOf program labels text = HasReport program labels text
-
--- the program is that of these class files behind the prelude, and no class has a fault of linking
-pub record IsLinked (classes : List ClassFile) (program : Program) : Type 0 where
-  pub program_is : program ≡ program_of classes
-  pub whole : HasNoFault (linked_classes classes)
 
 -- the method has code, and is one of the class files
 abbrev pub has_file_code : Program → Method → Bool
@@ -69,12 +54,9 @@ HasOneCode program entry =
 abbrev pub CatchesNothing : Program → ℕ → Type 0
 CatchesNothing program m = (code : Code) → code_at program m ≡ Some code → code.rows ≡ []
 
--- a policy of this text gives the program these labels, and the program is of the first form
+-- a policy of this text gives the program these labels, with which it is of the first form
 pub record IsFirstForm (program : Program) (policy : List ℕ) (labels : Labels) : Type 0 where
-  pub tree : Members
-  pub text : IsUtf8 policy
-  pub parsed : parse_document policy ≡ Some tree
-  pub labels_are : policy_of tree program ≡ Some labels
+  pub labels_are : GivesLabels program policy labels
   pub one_code : HasOneCode program labels.entry
   pub no_rows : CatchesNothing program labels.entry
   pub plain : IsPlainProgram program labels
@@ -128,55 +110,25 @@ IsSecureCheck held names status = ⊤
 
 -- ---- what refuses its files
 
--- the kind of a fault of linking; want of memory is none
-abbrev pub kind_of : LinkCode → Option LinkKind
-kind_of links.TwiceDefined = Some kinds.TwiceDefined
-kind_of links.MissingClass = Some kinds.MissingClass
-kind_of links.CyclicSuper = Some kinds.CyclicSuper
-kind_of links.MissingMember = Some kinds.MissingMember
-kind_of links.NotImplemented = Some kinds.NotImplemented
-kind_of links.InterfaceBody = Some kinds.InterfaceBody
-kind_of links.StaticInit = Some kinds.StaticInit
-kind_of links.Memory = None
+-- what refuses a program with a policy: the fault of the policy, or that it is in no form that is built
+pub data RefusesProgram (program : Program) (policy : List ℕ) : Refusal → Type 0 where
+  of_policy : (refusal : Refusal) → RefusesPolicy program policy refusal → RefusesProgram program policy refusal
+  of_form : (labels : Labels) → GivesLabels program policy labels → (IsFirstForm program policy labels → ⊥)
+      → RefusesProgram program policy (Input faults.NotBuilt)
 
--- the fault of linking that is told of these classes
-pub data RefusesClasses (classes : List ClassFile) : Refusal → Type 0 where
-  of_linking : (fault : LinkFault) (kind : LinkKind) → IsLinkFault classes fault → kind_of fault.code ≡ Some kind
-      → RefusesClasses classes (Input (faults.Link kind fault.name))
-
--- nothing refuses the files before the verdict, and they are in no form that is built
-pub record IsNoForm (files : ProgramFiles) : Type 0 where
-  pub classes : List ClassFile
-  pub passes : HaveClasses files classes
-  pub program : Program
-  pub linked : IsLinked classes program
-  pub no_form : (labels : Labels) → ¬ IsFirstForm program files.policy labels
-
--- what refuses the files: in the files themselves, in their classes together, or that no form is built that they are in
+-- what refuses the files: in the files themselves, in their classes together, or in the program that they make
 pub data IsRefusalOf (files : ProgramFiles) : Refusal → Type 0 where
   in_files : (refusal : Refusal) → RefusesFiles files refusal → IsRefusalOf files refusal
   in_classes : (classes : List ClassFile) (refusal : Refusal) → HaveClasses files classes → RefusesClasses classes refusal
       → IsRefusalOf files refusal
-  in_no_form : IsNoForm files → IsRefusalOf files (Input faults.NotBuilt)
+  in_program : (classes : List ClassFile) (program : Program) (refusal : Refusal) → HaveClasses files classes
+      → IsLinked classes program → RefusesProgram program files.policy refusal → IsRefusalOf files refusal
 
 abbrev pub CheckRefuses : Held → ProgramNames → Refusal → Type 0
 CheckRefuses held names refusal =
     (files : ProgramFiles) × AreProgramFiles held names files × IsRefusalOf files refusal
 
 -- ---- what the parts of the code say
-
-abbrev pub link_stop_by : Option LinkKind → List ℕ → Stop
-link_stop_by None name = Memory
-link_stop_by (Some kind) name = Faulty (Input (faults.Link kind name))
-
-abbrev pub link_stop : LinkFault → Stop
-link_stop fault = link_stop_by (kind_of fault.code) fault.name
-
--- why classes make no program, unless memory is wanting
-abbrev pub IsLinkStop : List ClassFile → Stop → Type 0
-IsLinkStop classes (Faulty refusal) = RefusesClasses classes refusal
-IsLinkStop classes (Unread unread) = ⊥
-IsLinkStop classes Memory = ⊤
 
 -- the limits of a method's code
 abbrev pub HasLimits : Program → ℕ → ℕ → ℕ → Type 0
@@ -202,13 +154,22 @@ IsVerdict program labels NotBuilt = ⊥
 IsVerdict program labels Accepted = IsClean program labels
 IsVerdict program labels (Refused text) = IsReportOf program labels text.items
 
--- the decision on a program and a policy
-abbrev pub IsDecision : Program → List ℕ → Decision → Type 0
-IsDecision program policy NotBuilt = (labels : Labels) → ¬ IsFirstForm program policy labels
-IsDecision program policy Accepted =
-    (labels : Labels) × IsFirstForm program policy labels × IsClean program labels
-IsDecision program policy (Refused text) =
-    (labels : Labels) × IsFirstForm program policy labels × IsReportOf program labels text.items
+-- the decision on a program that is well labelled
+abbrev pub IsDecision : Program → Labels → Decision → Type 0
+IsDecision program labels NotBuilt = IsFormOf program labels → ⊥
+IsDecision program labels Accepted = IsFormOf program labels × IsClean program labels
+IsDecision program labels (Refused text) = IsFormOf program labels × IsReportOf program labels text.items
+
+-- what a text with a status says of a program and a policy
+abbrev pub IsVerdictOf : Program → List ℕ → Status → List ℕ → Type 0
+IsVerdictOf program policy statuses.Done text =
+    (text ≡ accepted_text) × (labels : Labels) × IsFirstForm program policy labels × IsClean program labels
+IsVerdictOf program policy statuses.Refused text =
+    (labels : Labels) × IsFirstForm program policy labels × IsReportOf program labels text
+IsVerdictOf program policy status text = ⊥
+
+abbrev pub IsProgramOutcome : Program → List ℕ → Result Answer Stop → Type 0
+IsProgramOutcome program policy result = IsReadOutcome (IsVerdictOf program policy) (RefusesProgram program policy) result
 
 -- what is shown of a decision
 abbrev pub IsShown : Decision → Result Answer Stop → Type 0

@@ -1,6 +1,7 @@
 pub mod Words
 pub mod Sinks
 pub mod Answers
+pub mod Stops
 pub mod Check
 pub mod OneFile
 pub mod Asm

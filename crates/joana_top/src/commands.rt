@@ -7,6 +7,7 @@ mod asm;
 mod check;
 mod dis;
 mod help;
+mod stops;
 
 use crate::words::Command;
 use jo_io::Files;

@@ -6,4 +6,4 @@ mod TypeLemmas
 mod CountLemmas
 mod OrderLemmas
 mod ToldLemmas
-mod ParentsThere
+pub mod ParentsThere

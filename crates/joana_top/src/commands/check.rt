@@ -1,31 +1,29 @@
 //! `check CLASSES POLICY`: the verdict.
-ghost use Rattle.std.specs.Prelude.{◌≡◌, ◌<◌, ◌^◌, ◌↔◌, IfOk, IfErr, IfNone, IfSome, IsTrue, length};
-ghost use Rattle.class_pool.specs.declared.classes.ClassFile.{ClassFile};
+ghost use Rattle.std.specs.Prelude.{◌≡◌, ◌↔◌, IfOk, IsTrue};
+ghost use Rattle.hierarchy.specs.Hierarchies.{HasItsParents};
 ghost use Rattle.jo_prog.specs.Program.{HasNumbers};
-ghost use Rattle.jo_prog.specs.PlainCode.{IsPlainProgram};
+ghost use Rattle.jo_prog.specs.PlainCode.{IsWellLabelled, IsPlainProgram};
 ghost use Rattle.flow_graph.specs.Building.{HasShortCode};
-ghost use Rattle.joana_base.specs.Files.{names_of};
+ghost use Rattle.joana_base.specs.Files.{names_of, AreReadable};
 ghost use Rattle.joana_base.specs.Reading.{files_change, in_bytes, AfterProgramReads};
-ghost use Rattle.joana_base.specs.Files.{AreReadable};
 ghost use Rattle.joana_base.specs.declared.answers.Stop.TheVariants.{Faulty};
 ghost use Rattle.joana_base.specs.declared.status.Refusal.TheVariants.{Input};
 ghost use Rattle.joana_base.specs.declared.status.InputFault.TheVariants.{NotBuilt};
-ghost use Rattle.joana_top.specs.Check.{kind_of, link_stop, has_file_code, IsLinked, IsLinkStop, HasOneCode, CatchesNothing, HasLimits, HasShortLimits, IsFormOf, IsVerdict, IsDecision, IsShown, IsFilesOutcome, IsCheckOutcome};
+ghost use Rattle.joana_top.specs.Check.{has_file_code, HasOneCode, CatchesNothing, HasLimits, HasShortLimits, IsFormOf, IsVerdict, IsDecision, IsShown, IsProgramOutcome, IsFilesOutcome, IsCheckOutcome};
 
-use class_pool::ClassFile;
+use super::stops::{linked, policy_for};
 use flow_graph::sdg;
+use hierarchy::Hierarchy;
 use jo_ids::MethodId;
 use jo_io::Files;
-use jo_policy::read_policy;
+use jo_policy::laws::policies_label_well;
 use jo_prog::files::is_of_files;
 use jo_prog::jvm_typing;
 use jo_prog::labels::Labels;
 use jo_prog::program::{Method, Program, code_at};
 use joana_base::{
-    Answer, InputFault, LinkKind, ProgramFiles, ProgramNames, Refusal, Stop, classes_of,
-    read_program,
+    Answer, InputFault, ProgramFiles, ProgramNames, Refusal, Stop, classes_of, read_program,
 };
-use linker::{LinkCode, LinkFault, link};
 use low_run::refusal;
 use std::alloc::{AllocError as Memory, Global};
 
@@ -36,44 +34,6 @@ enum Decision {
     Accepted,
     /// The text of the report.
     Refused(Vec<u8>),
-}
-
-/// The kind of a fault. Want of memory is none.
-fn kind_of(code: LinkCode) -> Option<LinkKind>
-    ensures { result ≡ kind_of code }
-{
-    match code {
-        LinkCode::TwiceDefined => Some(LinkKind::TwiceDefined),
-        LinkCode::MissingClass => Some(LinkKind::MissingClass),
-        LinkCode::CyclicSuper => Some(LinkKind::CyclicSuper),
-        LinkCode::MissingMember => Some(LinkKind::MissingMember),
-        LinkCode::NotImplemented => Some(LinkKind::NotImplemented),
-        LinkCode::InterfaceBody => Some(LinkKind::InterfaceBody),
-        LinkCode::StaticInit => Some(LinkKind::StaticInit),
-        LinkCode::Memory => None,
-    }
-}
-
-/// The stop at class files that make no program.
-fn link_stop(fault: LinkFault) -> Stop
-    ensures { result ≡ link_stop fault }
-{
-    match kind_of(fault.code) {
-        Some(kind) => Stop::Faulty(Refusal::Input(InputFault::Link(kind, fault.name))),
-        None => Stop::Memory,
-    }
-}
-
-/// The program of the class files.
-fn linked(alloc: Global, classes: Vec<ClassFile>) -> Result<Program, Stop>
-    ensures program { IfOk result (IsLinked classes.items) }
-    ensures numbers { IfOk result HasNumbers }
-    ensures stop { IfErr result (IsLinkStop classes.items) }
-{
-    match link(alloc, classes) {
-        Ok(program) => Ok(program),
-        Err(fault) => Err(link_stop(fault)),
-    }
 }
 
 /// Whether the method has code and is one of the class files.
@@ -151,20 +111,16 @@ fn verdict(alloc: Global, program: &Program, labels: &Labels) -> Result<Decision
     }
 }
 
-/// The verdict on a program and a policy.
-fn decide(alloc: Global, program: &Program, policy: &[u8]) -> Result<Decision, Memory>
-    requires { length program.now.methods < 2 ^ 32 }
-    ensures { IfOk result (IsDecision program.now policy.now) }
+/// The verdict on a program that is well labelled, or that it is in no form that is built.
+fn decide(alloc: Global, program: &Program, labels: &Labels) -> Result<Decision, Memory>
+    requires { IsWellLabelled program.now labels.now }
+    ensures { IfOk result (IsDecision program.now labels.now) }
 {
-    let labels = match read_policy(alloc, policy, program)? {
-        Some(labels) => labels,
-        None => return Ok(Decision::NotBuilt),
-    };
-    if !is_first_form(alloc, program, &labels)? {
+    if !is_first_form(alloc, program, labels)? {
         return Ok(Decision::NotBuilt);
     }
     limits_are_short(program, labels.entry);
-    match verdict(alloc, program, &labels) {
+    match verdict(alloc, program, labels) {
         Ok(decision) => Ok(decision),
         Err(memory) => Err(memory),
     }
@@ -191,6 +147,26 @@ fn shown(alloc: Global, decision: Decision) -> Result<Answer, Stop>
     }
 }
 
+/// The answer on a program and the text of a policy.
+fn check_program(alloc: Global, program: &Program, policy: &[u8]) -> Result<Answer, Stop>
+    requires numbers { HasNumbers program.now }
+    requires parents { HasItsParents program.now }
+    ensures { IsProgramOutcome program.now policy.now result }
+{
+    let Ok(hierarchy) = Hierarchy::build(alloc, program) else {
+        return Err(Stop::Memory);
+    };
+    let policy = match policy_for(alloc, program, &hierarchy, policy) {
+        Ok(policy) => policy,
+        Err(stop) => return Err(stop),
+    };
+    policies_label_well();
+    match decide(alloc, program, policy.labels()) {
+        Ok(decision) => shown(alloc, decision),
+        Err(_) => Err(Stop::Memory),
+    }
+}
+
 /// The answer on files that were read.
 fn check_files(alloc: Global, files: &ProgramFiles) -> Result<Answer, Stop>
     requires { AreReadable (in_bytes files.now) }
@@ -204,10 +180,7 @@ fn check_files(alloc: Global, files: &ProgramFiles) -> Result<Answer, Stop>
         Ok(program) => program,
         Err(stop) => return Err(stop),
     };
-    match decide(alloc, &program, files.policy.as_slice()) {
-        Ok(decision) => shown(alloc, decision),
-        Err(_) => Err(Stop::Memory),
-    }
+    check_program(alloc, &program, files.policy.as_slice())
 }
 
 /// What `check` comes to.

@@ -4,8 +4,8 @@ use Rattle.std.specs.declared.alloc.Global.{Global}
 use Rattle.class_pool.specs.declared.classes.ClassFile.{ClassFile}
 use Rattle.joana_base.specs.Files.{classes_of}
 use Rattle.joana_base.specs.Reading.{in_bytes, all_bytes, AreClasses, IsUnlessMemory}
-use Rattle.joana_top.specs.Check.{IsDecision}
-use Rattle.joana_top.proofs.Outcomes.{few_classes, refused_classes, classes_made, refused_linking, decided}
+use Rattle.joana_top.specs.Check.{IsProgramOutcome}
+use Rattle.joana_top.proofs.Outcomes.{few_classes, refused_classes, classes_made, refused_linking, of_program}
 use Rattle.joana_top.proofs.commands.check.check_files.Goals as goal
 
 pub classes_of-requires : goal.classes_of-requires
@@ -22,14 +22,11 @@ returns-in-Err-linked c =
     let passes = classes_made (in_bytes c.args.files.now) c.requires c.in-Ok.classes.items (subst All_read c.as_slice.ensures.value c.in-Ok.ensures.value) in
     refused_linking (in_bytes c.args.files.now) c.in-Ok.classes.items passes c.in-Err-linked.stop c.in-Err-linked.ensures.stop
 
-pub decide-requires : goal.decide-requires
-decide-requires c = c.in-Ok-linked.ensures.numbers.methods
-
-pub returns-in-Ok-decide : goal.returns-in-Ok-decide
-returns-in-Ok-decide c =
+pub returns : goal.returns
+returns c =
     let All_read : List (Vec ℕ Global) → Type 0 = λ files. classes_of (all_bytes files) ≡ Ok c.in-Ok.classes.items in
     let passes = classes_made (in_bytes c.args.files.now) c.requires c.in-Ok.classes.items (subst All_read c.as_slice.ensures.value c.in-Ok.ensures.value) in
     let Read : List (Vec ℕ Global) → Type 0 = λ files. AreClasses (all_bytes files) c.in-Ok.classes.items in
-    let Decided : List ℕ → Type 0 = λ policy. IsDecision c.in-Ok-linked.program policy c.in-Ok-decide.decision in
-    decided (in_bytes c.args.files.now) c.in-Ok.classes.items passes (subst Read c.as_slice.ensures.value c.in-Ok.ensures.classes) c.in-Ok-linked.program c.in-Ok-linked.ensures.program
-    c.in-Ok-decide.decision c.shown.result (subst Decided c.as_slice-2.ensures.value c.in-Ok-decide.ensures) c.shown.ensures
+    let Said : List ℕ → Type 0 = λ policy. IsProgramOutcome c.in-Ok-linked.program policy c.check_program.result in
+    of_program (in_bytes c.args.files.now) c.in-Ok.classes.items passes (subst Read c.as_slice.ensures.value c.in-Ok.ensures.classes) c.in-Ok-linked.program c.in-Ok-linked.ensures.program
+    c.check_program.result (subst Said c.as_slice-2.ensures.value c.check_program.ensures)

@@ -1,0 +1,130 @@
+-- Why class files and a policy can't be judged, in the order in which it is told: faults of linking, then of the policy
+-- (this project's own).
+use Rattle.std.specs.Prelude.{◌≡◌, ℕ, List, [], ◌∷◌, ◌++◌, Option, Some, None, ⊤}
+use Rattle.std.specs.Fmt.{decimal}
+use Rattle.toml.specs.Data.{Members}
+use Rattle.jo_text.specs.Escapes.{escaped}
+use Rattle.class_pool.specs.declared.classes.ClassFile.{ClassFile}
+use Rattle.jo_prog.specs.declared.program.Program.{Program}
+use Rattle.jo_prog.specs.declared.labels.Labels.{Labels}
+use Rattle.jo_prog.specs.Spelling.{spelled_method}
+use Rattle.linker.specs.Linking.{linked_classes, program_of}
+use Rattle.linker.specs.LinkOrder.{HasNoFault, IsLinkFault}
+use Rattle.linker.specs.declared.causes.LinkFault.{LinkFault}
+use Rattle.linker.specs.declared.causes.LinkCode.{LinkCode}
+use Rattle.linker.specs.declared.causes.LinkCode.TheVariants as links
+use Rattle.policy_tree.specs.declared.faults.LevelFault.{LevelFault}
+use Rattle.policy_tree.specs.declared.faults.LevelFault.TheVariants.{Twice, TooMany, Cycle}
+use Rattle.policy_tree.specs.declared.faults.PolicyFault.{PolicyFault}
+use Rattle.policy_tree.specs.declared.faults.PolicyFault.TheVariants as policies
+use Rattle.policy_tree.specs.declared.written.ContextsKey.{ContextsKey}
+use Rattle.jo_policy.specs.Policies.{IsTree, IsPolicy, IsTextFault}
+use Rattle.joana_base.specs.declared.status.InputFault.TheVariants as faults
+use Rattle.joana_base.specs.declared.status.LinkKind.{LinkKind}
+use Rattle.joana_base.specs.declared.status.LinkKind.TheVariants as link_kinds
+use Rattle.joana_base.specs.declared.status.PolicyKind.{PolicyKind}
+use Rattle.joana_base.specs.declared.status.PolicyKind.TheVariants as policy_kinds
+use Rattle.joana_base.specs.declared.status.Refusal.{Refusal}
+use Rattle.joana_base.specs.declared.status.Refusal.TheVariants.{Input}
+use Rattle.joana_base.specs.declared.answers.Stop.{Stop}
+use Rattle.joana_base.specs.declared.answers.Stop.TheVariants.{Faulty, Unread, Memory}
+
+-- ---- linking
+
+-- the program is that of these class files behind the prelude, and no class has a fault of linking
+pub record IsLinked (classes : List ClassFile) (program : Program) : Type 0 where
+  pub program_is : program ≡ program_of classes
+  pub whole : HasNoFault (linked_classes classes)
+
+-- the kind of a fault of linking; want of memory is none
+abbrev pub link_kind : LinkCode → Option LinkKind
+link_kind links.TwiceDefined = Some link_kinds.TwiceDefined
+link_kind links.MissingClass = Some link_kinds.MissingClass
+link_kind links.CyclicSuper = Some link_kinds.CyclicSuper
+link_kind links.MissingMember = Some link_kinds.MissingMember
+link_kind links.NotImplemented = Some link_kinds.NotImplemented
+link_kind links.InterfaceBody = Some link_kinds.InterfaceBody
+link_kind links.StaticInit = Some link_kinds.StaticInit
+link_kind links.Memory = None
+
+-- the fault of linking that is told of these classes
+pub data RefusesClasses (classes : List ClassFile) : Refusal → Type 0 where
+  of_linking : (fault : LinkFault) (kind : LinkKind) → IsLinkFault classes fault → link_kind fault.code ≡ Some kind
+      → RefusesClasses classes (Input (faults.Link kind fault.name))
+
+-- ---- the policy
+
+-- a policy of this text has no fault and gives the program these labels
+pub record GivesLabels (program : Program) (policy : List ℕ) (labels : Labels) : Type 0 where
+  pub tree : Members
+  pub contexts : ContextsKey
+  pub is_tree : IsTree policy tree
+  pub is_policy : IsPolicy program tree labels contexts
+
+-- the kind of a fault of a policy; want of memory is none
+abbrev pub policy_kind : PolicyFault → Option PolicyKind
+policy_kind policies.NotToml = Some policy_kinds.NotToml
+policy_kind (policies.Key name) = Some policy_kinds.Key
+policy_kind (policies.UnknownLevel name) = Some policy_kinds.UnknownLevel
+policy_kind (policies.Order fault) = Some policy_kinds.Order
+policy_kind (policies.MissingMethod name) = Some policy_kinds.MissingMethod
+policy_kind (policies.WrongShape m) = Some policy_kinds.WrongShape
+policy_kind (policies.UnlabelledNative m) = Some policy_kinds.UnlabelledNative
+policy_kind (policies.TwiceLabelled m) = Some policy_kinds.TwiceLabelled
+policy_kind (policies.ReleaseUpward m) = Some policy_kinds.ReleaseUpward
+policy_kind (policies.ReleaseWithThreads m pc) = Some policy_kinds.ReleaseWithThreads
+policy_kind policies.Entry = Some policy_kinds.Entry
+policy_kind policies.Memory = None
+
+-- the levels that a fault of their order carries
+abbrev pub carried_levels : LevelFault → List ℕ
+carried_levels (Twice name) = 32 ∷ escaped name
+carried_levels TooMany = []
+carried_levels (Cycle low high) = (32 ∷ escaped low) ++ 32 ∷ escaped high
+
+-- what a fault carries, as it is printed: names, levels, methods and a pc, each behind a space
+abbrev pub carried : Program → PolicyFault → List ℕ
+carried program policies.NotToml = []
+carried program (policies.Key name) = 32 ∷ escaped name
+carried program (policies.UnknownLevel name) = 32 ∷ escaped name
+carried program (policies.Order fault) = carried_levels fault
+carried program (policies.MissingMethod name) = 32 ∷ escaped name
+carried program (policies.WrongShape m) = 32 ∷ spelled_method program m
+carried program (policies.UnlabelledNative m) = 32 ∷ spelled_method program m
+carried program (policies.TwiceLabelled m) = 32 ∷ spelled_method program m
+carried program (policies.ReleaseUpward m) = 32 ∷ spelled_method program m
+carried program (policies.ReleaseWithThreads m pc) = (32 ∷ spelled_method program m) ++ 32 ∷ decimal pc
+carried program policies.Entry = []
+carried program policies.Memory = []
+
+-- the first fault of the policy
+pub data RefusesPolicy (program : Program) (policy : List ℕ) : Refusal → Type 0 where
+  of_text : (fault : PolicyFault) (kind : PolicyKind) → IsTextFault program policy fault → policy_kind fault ≡ Some kind
+      → RefusesPolicy program policy (Input (faults.Policy kind (carried program fault)))
+
+-- ---- what the parts of the code say
+
+-- the refusal that stops, unless memory is wanting
+abbrev pub StopsBy : (Refusal → Type 0) → Stop → Type 0
+StopsBy Refuses (Faulty refusal) = Refuses refusal
+StopsBy Refuses (Unread unread) = ⊥
+StopsBy Refuses Memory = ⊤
+
+abbrev pub link_stop_by : Option LinkKind → List ℕ → Stop
+link_stop_by None name = Memory
+link_stop_by (Some kind) name = Faulty (Input (faults.Link kind name))
+
+abbrev pub link_stop : LinkFault → Stop
+link_stop fault = link_stop_by (link_kind fault.code) fault.name
+
+abbrev pub IsLinkStop : List ClassFile → Stop → Type 0
+IsLinkStop classes stop = StopsBy (RefusesClasses classes) stop
+
+-- what is told of this fault
+abbrev pub IsPolicyStop : Program → PolicyFault → Stop → Type 0
+IsPolicyStop program fault stop =
+    StopsBy (λ refusal. (kind : PolicyKind) × (policy_kind fault ≡ Some kind)
+    × (refusal ≡ Input (faults.Policy kind (carried program fault)))) stop
+
+abbrev pub IsLabelStop : Program → List ℕ → Stop → Type 0
+IsLabelStop program policy stop = StopsBy (RefusesPolicy program policy) stop
