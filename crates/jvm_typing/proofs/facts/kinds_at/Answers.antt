@@ -11,14 +11,14 @@ use Rattle.jvm_typing.proofs.facts.kinds_at.Goals as goal
 
 pub loop-number-init : goal.loop-number-init
 loop-number-init c =
-    let numbers = c.numbers.result.now in
+    let numbers = c.numbers-numbers.result.now in
     let held = HeldAt c.args.facts.now c.args.pc c.args.place in
     subst (λ (l : List KindHere). Adds (Contains {X = Kind} []) (Contains (map kind_in l)) (From [] held)) (sym c.new-kinds.ensures.items)
     (over_none numbers held (Contains {X = Kind} []))
 
 pub loop-number-preserved : goal.loop-number-preserved
 loop-number-preserved c =
-    let numbers = c.numbers.result.now in
+    let numbers = c.numbers-numbers.result.now in
     let held = HeldAt c.args.facts.now c.args.pc c.args.place in
     over_more numbers held (Contains {X = Kind} []) (Contains (map kind_in c.loop-number.kinds.items)) (Contains (map kind_in c.copy_at.new.kinds.items))
     c.loop-number.number-index 0 c.loop-number-test.true c.loop-number.invariant
@@ -26,7 +26,7 @@ loop-number-preserved c =
 
 pub returns : goal.returns
 returns c =
-    let numbers = c.numbers.result.now in
+    let numbers = c.numbers-numbers.result.now in
     let held = HeldAt c.args.facts.now c.args.pc c.args.place in
-    place_exact c.args.facts.now c.args.pc c.args.place numbers (map kind_in c.loop-number.kinds.items) c.numbers.ensures
+    place_exact c.args.facts.now c.args.pc c.args.place numbers (map kind_in c.loop-number.kinds.items) c.numbers-numbers.ensures
     (over_all numbers held (Contains {X = Kind} []) (Contains (map kind_in c.loop-number.kinds.items)) c.loop-number.number-index c.loop-number-test.false c.loop-number.invariant)
