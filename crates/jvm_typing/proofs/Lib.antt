@@ -19,6 +19,7 @@ pub mod AnswerLemmas
 pub mod EffectLemmas
 pub mod SourceLemmas
 pub mod GrowLemmas
+pub mod SlotLemmas
 pub mod ShapeLemmas
 pub mod KindLemmas
 pub mod FlowLemmas

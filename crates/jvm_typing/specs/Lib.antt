@@ -12,6 +12,7 @@ pub mod Kinds
 pub mod Forms
 pub mod Effects
 pub mod KindPasses
+pub mod Slots
 pub mod Sources
 pub mod KindFaults
 pub mod Typings

@@ -1,10 +1,13 @@
-//! Which kinds places may hold at a pc: a list that grows.
-ghost use Rattle.std.specs.Prelude.{◌≡◌, ◌↔◌, true, ℕ, Contains, map, IfOk, OnOk};
+//! Which kinds places may hold at a pc: facts that grow in number.
+ghost use Rattle.std.specs.Prelude.{◌≡◌, ◌↔◌, true, ℕ, Contains, map, slice_get, IfOk, OnOk};
+ghost use Rattle.std.specs.Option.{option_copied};
 ghost use Rattle.jo_prog.specs.Typing.{Kind as OfKind};
 ghost use Rattle.jvm_typing.specs.Adds.{Adds};
 ghost use Rattle.jvm_typing.specs.Kinds.{kind_in};
 ghost use Rattle.jvm_typing.specs.KindPasses.{Item, items_of, Grows, HeldBy};
+ghost use Rattle.jvm_typing.specs.Slots.{HeldAt};
 
+use crate::fact_tables::FactTable;
 use crate::kinds::{Kind, copy_kind};
 use jo_ids::Memory;
 use jo_prog::program::TypeRef;
@@ -88,11 +91,27 @@ fn is_fact(fact: &Fact, pc: u32, place: usize, kind: &Kind) -> bool
     same_kind(&fact.kind, kind)
 }
 
-fn has_fact(facts: &[Fact], pc: u32, place: usize, kind: &Kind) -> bool
+fn fact_at(facts: &[Fact], number: usize) -> Option<&Fact>
+    ensures { option_copied result ≡ slice_get facts.now number }
+{
+    facts.get(number)
+}
+
+fn is_fact_at(facts: &[Fact], number: usize, pc: u32, place: usize, kind: &Kind) -> bool
     ensures { result ≡ true → Contains facts.now (record { pc = pc; place = place; kind = kind.now }) }
 {
-    for fact in facts {
-        if is_fact(fact, pc, place, kind) {
+    match fact_at(facts, number) {
+        Some(fact) => is_fact(fact, pc, place, kind),
+        None => false,
+    }
+}
+
+fn has_fact(facts: &FactTable, pc: u32, place: usize, kind: &Kind) -> bool
+    ensures { result ≡ true → Contains facts.now (record { pc = pc; place = place; kind = kind.now }) }
+{
+    let numbers = facts.numbers(pc, place);
+    for number in numbers {
+        if is_fact_at(facts.as_slice(), *number, pc, place, kind) {
             return true;
         }
     }
@@ -101,14 +120,14 @@ fn has_fact(facts: &[Fact], pc: u32, place: usize, kind: &Kind) -> bool
 
 /// Adds that, unless it is there. Whether it wasn't.
 pub(crate) fn add_fact(
-    facts: &mut Vec<Fact>,
+    facts: &mut FactTable,
     pc: u32,
     place: usize,
     kind: Kind,
 ) -> Result<bool, Memory>
-    ensures { IfOk result (λ more. Grows (λ (x : Item). x ≡ record { pc = pc; place = place; kind = kind_in kind }) (items_of facts.old.items) (items_of facts.new.items) more) }
+    ensures { IfOk result (λ more. Grows (λ (x : Item). x ≡ record { pc = pc; place = place; kind = kind_in kind }) (items_of facts.old) (items_of facts.new) more) }
 {
-    if has_fact(facts.as_slice(), pc, place, &kind) {
+    if has_fact(facts, pc, place, &kind) {
         return Ok(false);
     }
     facts.push(Fact { pc, place, kind })?;
@@ -135,18 +154,39 @@ fn copy_where(
     Ok(())
 }
 
+/// The same for the fact with that number.
+fn copy_at(
+    alloc: Global,
+    kinds: &mut Vec<Kind>,
+    facts: &[Fact],
+    number: usize,
+    pc: u32,
+    place: usize,
+) -> Result<(), Memory>
+    ensures { OnOk result (Adds (Contains (map kind_in kinds.old.items)) (Contains (map kind_in kinds.new.items)) (HeldAt facts.now pc place number)) }
+{
+    match fact_at(facts, number) {
+        Some(fact) => {
+            copy_where(alloc, kinds, fact, pc, place)?;
+            Ok(())
+        }
+        None => Ok(()),
+    }
+}
+
 /// The kinds that are known of a place at a pc.
 pub(crate) fn kinds_at(
     alloc: Global,
-    facts: &[Fact],
+    facts: &FactTable,
     pc: u32,
     place: usize,
 ) -> Result<Vec<Kind>, Memory>
     ensures { IfOk result (λ kinds. (kind : OfKind) → Contains (map kind_in kinds.items) kind ↔ Contains (items_of facts.now) (record { pc = pc; place = place; kind = kind })) }
 {
     let mut kinds = Vec::new(alloc);
-    for fact in facts {
-        copy_where(alloc, &mut kinds, fact, pc, place)?;
+    let numbers = facts.numbers(pc, place);
+    for number in numbers {
+        copy_at(alloc, &mut kinds, facts.as_slice(), *number, pc, place)?;
     }
     Ok(kinds)
 }

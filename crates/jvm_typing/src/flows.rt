@@ -14,7 +14,8 @@ ghost use Rattle.jvm_typing.specs.Subjects.{program_of, typable_of, IsSubject};
 ghost use Rattle.jvm_typing.specs.declared.moves.Move.{Move};
 
 use crate::effects::{Effect, effect_at};
-use crate::facts::{Fact, add_fact, kinds_at};
+use crate::fact_tables::FactTable;
+use crate::facts::{add_fact, kinds_at};
 use crate::faults::differs;
 use crate::kinds::{Change, Kind, changed};
 use crate::moves::Move;
@@ -27,6 +28,9 @@ use jo_ids::Memory;
 use jo_prog::program::{Program, Row};
 use std::alloc::{AllocError, Global};
 
+/// How many slots a table of facts has at most.
+const MOST_SLOTS: usize = 1_048_576;
+
 fn either(a: bool, b: bool) -> bool
     ensures { result ≡ (a || b) }
 {
@@ -36,14 +40,14 @@ fn either(a: bool, b: bool) -> bool
 fn bring_one(
     alloc: Global,
     program: &Program,
-    facts: &mut Vec<Fact>,
+    facts: &mut FactTable,
     to: u32,
     place: usize,
     change: Change,
     kind: &Kind,
 ) -> Result<bool, Memory>
     requires { length program.now.classes < 2 ^ 32 }
-    ensures { IfOk result (λ more. Grows (Turned program.now to place (change_in change) kind.now) (items_of facts.old.items) (items_of facts.new.items) more) }
+    ensures { IfOk result (λ more. Grows (Turned program.now to place (change_in change) kind.now) (items_of facts.old) (items_of facts.new) more) }
 {
     let made = changed(alloc, program, change, kind)?;
     let more = add_fact(facts, to, place, made)?;
@@ -53,14 +57,14 @@ fn bring_one(
 fn bring_all(
     alloc: Global,
     program: &Program,
-    facts: &mut Vec<Fact>,
+    facts: &mut FactTable,
     to: u32,
     place: usize,
     change: Change,
     kinds: &[Kind],
 ) -> Result<bool, Memory>
     requires { length program.now.classes < 2 ^ 32 }
-    ensures { IfOk result (λ more. Grows (From kinds.now (Turned program.now to place (change_in change))) (items_of facts.old.items) (items_of facts.new.items) more) }
+    ensures { IfOk result (λ more. Grows (From kinds.now (Turned program.now to place (change_in change))) (items_of facts.old) (items_of facts.new) more) }
 {
     let mut more = false;
     for kind in kinds {
@@ -74,14 +78,14 @@ fn bring_all(
 fn bring(
     alloc: Global,
     program: &Program,
-    facts: &mut Vec<Fact>,
+    facts: &mut FactTable,
     from: u32,
     to: u32,
     place: usize,
     source: Source,
 ) -> Result<bool, Memory>
     requires { length program.now.classes < 2 ^ 32 }
-    ensures { IfOk result (λ more. Grows (Brings program.now (items_of facts.old.items) from to place (source_in source)) (items_of facts.old.items) (items_of facts.new.items) more) }
+    ensures { IfOk result (λ more. Grows (Brings program.now (items_of facts.old) from to place (source_in source)) (items_of facts.old) (items_of facts.new) more) }
 {
     match source {
         Source::Fixed(kind) => {
@@ -89,7 +93,7 @@ fn bring(
             Ok(more)
         }
         Source::FromPlace(before, change) => {
-            let kinds = kinds_at(alloc, facts.as_slice(), from, before)?;
+            let kinds = kinds_at(alloc, facts, from, before)?;
             let more = bring_all(alloc, program, facts, to, place, change, kinds.as_slice())?;
             Ok(more)
         }
@@ -110,7 +114,7 @@ fn bring_step(
     alloc: Global,
     subject: &Subject<'_>,
     heights: &[Option<u16>],
-    facts: &mut Vec<Fact>,
+    facts: &mut FactTable,
     effect: &Effect,
     sizes: Sizes,
     step: Move,
@@ -122,7 +126,7 @@ fn bring_step(
     requires to_height { height_at heights.now step.to ≡ Some step.height }
     requires locals { sizes.locals ≡ subject.now.code.now.max_locals }
     requires effect { effect_in effect.now ≡ effect_at (program_of subject.now) (typable_of subject.now) step.from }
-    ensures { IfOk result (λ more. Spreads (program_of subject.now) (typable_of subject.now) heights.now (ClosedBelow (program_of subject.now) (typable_of subject.now) step sizes.height (subject.now.code.now.max_locals + step.height)) (items_of facts.old.items) (items_of facts.new.items) more) }
+    ensures { IfOk result (λ more. Spreads (program_of subject.now) (typable_of subject.now) heights.now (ClosedBelow (program_of subject.now) (typable_of subject.now) step sizes.height (subject.now.code.now.max_locals + step.height)) (items_of facts.old) (items_of facts.new) more) }
 {
     let mut more = false;
     for place in 0..usize::from(sizes.locals) + usize::from(step.height) {
@@ -148,7 +152,7 @@ fn flow(
     hierarchy: &Hierarchy,
     subject: &Subject<'_>,
     heights: &[Option<u16>],
-    facts: &mut Vec<Fact>,
+    facts: &mut FactTable,
     step: Move,
 ) -> Result<bool, Memory>
     requires subject { IsSubject subject.now }
@@ -156,7 +160,7 @@ fn flow(
     requires short { length (program_of subject.now).classes < 2 ^ 32 }
     requires heights { AreHeights (program_of subject.now) (typable_of subject.now) heights.now }
     requires is_move { IsMove (program_of subject.now) (typable_of subject.now) heights.now step }
-    ensures { IfOk result (λ more. Spreads (program_of subject.now) (typable_of subject.now) heights.now (ClosedAt (program_of subject.now) (typable_of subject.now) heights.now step) (items_of facts.old.items) (items_of facts.new.items) more) }
+    ensures { IfOk result (λ more. Spreads (program_of subject.now) (typable_of subject.now) heights.now (ClosedAt (program_of subject.now) (typable_of subject.now) heights.now step) (items_of facts.old) (items_of facts.new) more) }
 {
     let Some(height) = known_height(heights, step.from) else {
         return Ok(false);
@@ -180,14 +184,14 @@ fn round(
     subject: &Subject<'_>,
     heights: &[Option<u16>],
     moves: &[Move],
-    facts: &mut Vec<Fact>,
+    facts: &mut FactTable,
 ) -> Result<bool, Memory>
     requires subject { IsSubject subject.now }
     requires kept { IsHierarchyOf (program_of subject.now) hierarchy.now }
     requires short { length (program_of subject.now).classes < 2 ^ 32 }
     requires heights { AreHeights (program_of subject.now) (typable_of subject.now) heights.now }
     requires moves { (m : Move) → Contains moves.now m ↔ IsMove (program_of subject.now) (typable_of subject.now) heights.now m }
-    ensures { IfOk result (λ more. Spreads (program_of subject.now) (typable_of subject.now) heights.now (ClosedFor (program_of subject.now) (typable_of subject.now) heights.now moves.now) (items_of facts.old.items) (items_of facts.new.items) more) }
+    ensures { IfOk result (λ more. Spreads (program_of subject.now) (typable_of subject.now) heights.now (ClosedFor (program_of subject.now) (typable_of subject.now) heights.now moves.now) (items_of facts.old) (items_of facts.new) more) }
 {
     let mut more = false;
     for step in moves {
@@ -197,6 +201,12 @@ fn round(
     Ok(more)
 }
 
+/// How many places a method has at all its pcs, up to a bound.
+fn places_of(pcs: usize, max_locals: u16, max_stack: u16) -> usize {
+    pcs.saturating_mul(usize::from(max_locals) + usize::from(max_stack))
+        .min(MOST_SLOTS)
+}
+
 /// The kinds that the places of the method may hold at each pc, at the height that it has.
 pub(crate) fn kinds_of(
     alloc: Global,
@@ -204,15 +214,16 @@ pub(crate) fn kinds_of(
     subject: &Subject<'_>,
     heights: &[Option<u16>],
     moves: &[Move],
-) -> Result<Vec<Fact>, Memory>
+) -> Result<FactTable, Memory>
     requires subject { IsSubject subject.now }
     requires kept { IsHierarchyOf (program_of subject.now) hierarchy.now }
     requires short { length (program_of subject.now).classes < 2 ^ 32 }
     requires heights { AreHeights (program_of subject.now) (typable_of subject.now) heights.now }
     requires moves { (m : Move) → Contains moves.now m ↔ IsMove (program_of subject.now) (typable_of subject.now) heights.now m }
-    ensures { IfOk result (λ facts. AreKinds (program_of subject.now) (typable_of subject.now) heights.now (items_of facts.items)) }
+    ensures { IfOk result (λ facts. AreKinds (program_of subject.now) (typable_of subject.now) heights.now (items_of facts)) }
 {
-    let mut facts = start_facts(alloc, subject)?;
+    let room = places_of(heights.len(), subject.code.max_locals, subject.code.max_stack);
+    let mut facts = start_facts(alloc, subject, room)?;
     // each pass but the last finds something, so this many find more than memory holds
     for _ in 0..u32::MAX {
         if !round(alloc, hierarchy, subject, heights, moves, &mut facts)? {

@@ -5,6 +5,7 @@
 
 mod asks;
 mod effects;
+mod fact_tables;
 mod facts;
 mod faults;
 mod flows;

@@ -10,6 +10,7 @@ ghost use Rattle.jvm_typing.specs.Kinds.{kind_in};
 ghost use Rattle.jvm_typing.specs.KindPasses.{Item, items_of, Starts, StartAt};
 ghost use Rattle.jvm_typing.specs.Subjects.{program_of, typable_of, IsSubject};
 
+use crate::fact_tables::FactTable;
 use crate::facts::Fact;
 use crate::kinds::{Kind, copy_kind, kind_of_type};
 use crate::subjects::Subject;
@@ -99,11 +100,11 @@ fn kind_at(kinds: &[Kind], place: usize) -> Option<&Kind>
 
 fn add_start(
     alloc: Global,
-    facts: &mut Vec<Fact>,
+    facts: &mut FactTable,
     kinds: &[Kind],
     place: usize,
 ) -> Result<(), Memory>
-    ensures { OnOk result (Adds (Contains (items_of facts.old.items)) (Contains (items_of facts.new.items)) (StartAt (map kind_in kinds.now) place)) }
+    ensures { OnOk result (Adds (Contains (items_of facts.old)) (Contains (items_of facts.new)) (StartAt (map kind_in kinds.now) place)) }
 {
     let Some(kind) = kind_at(kinds, place) else {
         return Ok(());
@@ -113,10 +114,14 @@ fn add_start(
     Ok(())
 }
 
-/// The facts at the start of the method.
-pub(crate) fn start_facts(alloc: Global, subject: &Subject<'_>) -> Result<Vec<Fact>, Memory>
+/// The facts at the start of the method, and room for about so many.
+pub(crate) fn start_facts(
+    alloc: Global,
+    subject: &Subject<'_>,
+    room: usize,
+) -> Result<FactTable, Memory>
     requires { length (program_of subject.now).classes < 2 ^ 32 }
-    ensures { IfOk result (λ facts. (x : Item) → Contains (items_of facts.items) x ↔ Starts (program_of subject.now) (typable_of subject.now) x) }
+    ensures { IfOk result (λ facts. (x : Item) → Contains (items_of facts) x ↔ Starts (program_of subject.now) (typable_of subject.now) x) }
 {
     let kinds = start_kinds(
         alloc,
@@ -124,7 +129,7 @@ pub(crate) fn start_facts(alloc: Global, subject: &Subject<'_>) -> Result<Vec<Fa
         subject.method,
         subject.code.max_locals,
     )?;
-    let mut facts = Vec::new(alloc);
+    let mut facts = FactTable::new(alloc, room)?;
     for place in 0..kinds.len() {
         add_start(alloc, &mut facts, kinds.as_slice(), place)?;
     }

@@ -9,14 +9,14 @@ use Rattle.jvm_typing.proofs.flows.flow.Goals as goal
 pub returns-in_default : goal.returns-in_default
 returns-in_default c =
     let s = c.args.subject.now in
-    let items = items_of c.args.facts.now.items in
+    let items = items_of c.args.facts.now in
     let none : height_at c.args.heights.now c.args.step.from ≡ None = search rules in
     spreads_none (program_of s) (typable_of s) c.args.heights.now (ClosedAt (program_of s) (typable_of s) c.args.heights.now c.args.step) items (closed_nowhere (program_of s) (typable_of s) c.args.heights.now c.args.step items none)
 
 pub returns-then-differs : goal.returns-then-differs
 returns-then-differs c =
     let s = c.args.subject.now in
-    let items = items_of c.args.facts.now.items in
+    let items = items_of c.args.facts.now in
     let other : other_height (height_at c.args.heights.now c.args.step.to) c.args.step.height ≡ true = search rules in
     spreads_none (program_of s) (typable_of s) c.args.heights.now (ClosedAt (program_of s) (typable_of s) c.args.heights.now c.args.step) items
     (closed_elsewhere (program_of s) (typable_of s) c.args.heights.now c.args.step items (not_there (height_at c.args.heights.now c.args.step.to) c.args.step.height other))
@@ -31,5 +31,5 @@ returns c =
     let s = c.args.subject.now in
     let has : height_at c.args.heights.now c.args.step.from ≡ Some c.in-Some.height = search rules in
     spreads_alike (program_of s) (typable_of s) c.args.heights.now (ClosedBelow (program_of s) (typable_of s) c.args.step c.in-Some.height (s.code.now.max_locals + c.args.step.height)) (ClosedAt (program_of s) (typable_of s) c.args.heights.now c.args.step)
-    (items_of c.args.facts.now.items) (items_of c.bring_step.new.facts.items) c.in_ok-more.more c.in_ok-more.ensures
-    (closed_with (program_of s) (typable_of s) c.args.heights.now c.args.step c.in-Some.height has (items_of c.args.facts.now.items))
+    (items_of c.args.facts.now) (items_of c.bring_step.new.facts) c.in_ok-more.more c.in_ok-more.ensures
+    (closed_with (program_of s) (typable_of s) c.args.heights.now c.args.step c.in-Some.height has (items_of c.args.facts.now))

@@ -20,5 +20,5 @@ returns-then-not-branch c =
     let t = typable_of s in
     let none : c.in_ok-round.field-0 ≡ false = search rules in
     let spreads = c.in_ok-round.ensures in
-    are_kinds p t c.args.heights.now c.requires.heights (items_of c.round.new.facts.items) c.args.moves.now c.requires.moves (spreads.sound c.loop.invariant.sound) (λ x is. spreads.kept x (c.loop.invariant.starts x is))
+    are_kinds p t c.args.heights.now c.requires.heights (items_of c.round.new.facts) c.args.moves.now c.requires.moves (spreads.sound c.loop.invariant.sound) (λ x is. spreads.kept x (c.loop.invariant.starts x is))
     (subst (λ (items : List Item). ClosedFor p t c.args.heights.now c.args.moves.now items) (sym (spreads.still none)) (spreads.full none))

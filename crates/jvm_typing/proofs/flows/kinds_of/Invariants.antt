@@ -5,6 +5,6 @@ use Rattle.jvm_typing.proofs.flows.kinds_of.Given as goal
 
 abbrev pub invariant-loop : goal.invariant-loop
 invariant-loop l = record {
-  sound : (x : Item) → Contains (items_of l.facts.items) x → Holds (program_of l.subject) (typable_of l.subject) l.heights x;
-  starts : (x : Item) → Starts (program_of l.subject) (typable_of l.subject) x → Contains (items_of l.facts.items) x;
+  sound : (x : Item) → Contains (items_of l.facts) x → Holds (program_of l.subject) (typable_of l.subject) l.heights x;
+  starts : (x : Item) → Starts (program_of l.subject) (typable_of l.subject) x → Contains (items_of l.facts) x;
 }

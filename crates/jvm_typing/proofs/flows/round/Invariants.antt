@@ -5,4 +5,4 @@ use Rattle.jvm_typing.proofs.flows.round.Given as goal
 
 abbrev pub invariant-loop-step : goal.invariant-loop-step
 invariant-loop-step l =
-    Spreads (program_of l.subject) (typable_of l.subject) l.heights (ClosedFor (program_of l.subject) (typable_of l.subject) l.heights (take l.step-index l.moves)) (items_of l.initial.facts.items) (items_of l.facts.items) l.more
+    Spreads (program_of l.subject) (typable_of l.subject) l.heights (ClosedFor (program_of l.subject) (typable_of l.subject) l.heights (take l.step-index l.moves)) (items_of l.initial.facts) (items_of l.facts) l.more
