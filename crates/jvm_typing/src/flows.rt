@@ -222,7 +222,11 @@ pub(crate) fn kinds_of(
     requires moves { (m : Move) → Contains moves.now m ↔ IsMove (program_of subject.now) (typable_of subject.now) heights.now m }
     ensures { IfOk result (λ facts. AreKinds (program_of subject.now) (typable_of subject.now) heights.now (items_of facts)) }
 {
-    let room = places_of(heights.len(), subject.code.max_locals, subject.code.max_stack);
+    let room = places_of(
+        heights.len(),
+        subject.code.max_locals,
+        subject.code.max_stack,
+    );
     let mut facts = start_facts(alloc, subject, room)?;
     // each pass but the last finds something, so this many find more than memory holds
     for _ in 0..u32::MAX {
