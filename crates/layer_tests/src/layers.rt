@@ -2,8 +2,10 @@
 use chain_report::nodes::push_node;
 use class_read::read_class;
 use dep_nodes::{NodeKind, NodeName, SiteList};
+use hierarchy::{Hierarchy, has_its_parents};
 use jo_ids::{Id, List, Memory, MethodId};
-use jo_policy::read_policy;
+use jo_policy::PolicyFault;
+use jo_policy::whole::{Policy, read_policy};
 use jo_prog::jvm_typing::{is_plain, is_typed};
 use jo_prog::labels::{Label, Labels};
 use jo_prog::program::Program;
@@ -44,24 +46,35 @@ fn plain(item: &(MethodId, Label)) -> (u32, &'static str, u32) {
     }
 }
 
-// The program has 51 methods, which is few enough.
+// The policy that a text gives the program, which has 24 classes and 51 methods; none where it has a fault.
 fn read(
     rt: &impl Abort,
     alloc: Global,
     text: &[u8],
     program: &Program,
-) -> Result<Option<Labels>, Memory> {
+) -> Result<Option<Policy>, Fail> {
+    assert_eq!(rt; program.classes.as_slice().len(), 24);
     assert_eq!(rt; program.methods.as_slice().len(), 51);
-    read_policy(alloc, text, program)
+    if !has_its_parents(program) {
+        return Err(Fail::from("a parent is missing"));
+    }
+    let Ok(hierarchy) = Hierarchy::build(alloc, program) else {
+        return Err(Fail::from("no hierarchy"));
+    };
+    match read_policy(alloc, text, program, &hierarchy) {
+        Ok(policy) => Ok(Some(policy)),
+        Err(PolicyFault::Memory) => Err(Fail::from("no memory")),
+        Err(_) => Ok(None),
+    }
 }
 
-// The labels of a small policy: get gives low ints, secret high ones, and show takes low ones.
-fn small_labels(rt: &impl Abort, alloc: Global, program: &Program) -> Result<Labels, Fail> {
+// A policy with these labels: get gives low ints, secret high ones, and show takes low ones.
+fn small_policy(rt: &impl Abort, alloc: Global, program: &Program) -> Result<Policy, Fail> {
     let text = format!(in alloc;
         "{LEVELS}\n{FLOWS}\n{ENTRY}\n[sources]\n{SOURCES}\n[sinks]\n{SINKS}\n"
     )?;
     match read(rt, alloc, text.as_bytes(), program)? {
-        Some(labels) => Ok(labels),
+        Some(policy) => Ok(policy),
         None => Err(Fail::from("no policy")),
     }
 }
@@ -70,7 +83,8 @@ fn small_labels(rt: &impl Abort, alloc: Global, program: &Program) -> Result<Lab
 fn a_small_policy_is_read(rt: HostRuntime) -> Result<(), Fail> {
     let alloc = rt.alloc();
     let program = program(alloc)?.ok_or("a class")?;
-    let labels = small_labels(&rt, alloc, &program)?;
+    let policy = small_policy(&rt, alloc, &program)?;
+    let labels = policy.labels();
     assert_eq!(rt; labels.levels.as_slice().len(), 2);
     assert_eq!(rt; labels.flows.as_slice(), [(0u32, 1u32)].as_slice());
     assert_eq!(rt; labels.observers.as_slice().len(), 2);
@@ -92,15 +106,7 @@ fn a_policy_with_a_fault_is_none(rt: HostRuntime) -> Result<(), Fail> {
     let program = program(alloc)?.ok_or("a class")?;
     for (fault, levels, flows, entry, sources, sinks) in [
         (
-            "three levels",
-            "levels = [\"low\", \"high\", \"mid\"]",
-            FLOWS,
-            ENTRY,
-            SOURCES,
-            SINKS,
-        ),
-        (
-            "two flows",
+            "levels that flow to each other",
             LEVELS,
             "flows = [[\"low\", \"high\"], [\"high\", \"low\"]]",
             ENTRY,
@@ -267,9 +273,10 @@ fn outcome(
 fn a_class_is_typed(rt: HostRuntime) -> Result<(), Fail> {
     let alloc = rt.alloc();
     let program = program(alloc)?.ok_or("a class")?;
-    let labels = small_labels(&rt, alloc, &program)?;
-    assert!(rt; is_plain(&program, &labels));
-    assert!(rt; is_typed(alloc, &program, &labels)?);
+    let policy = small_policy(&rt, alloc, &program)?;
+    let labels = policy.labels();
+    assert!(rt; is_plain(&program, labels));
+    assert!(rt; is_typed(alloc, &program, labels)?);
     Ok(())
 }
 
@@ -277,30 +284,31 @@ fn a_class_is_typed(rt: HostRuntime) -> Result<(), Fail> {
 fn a_class_is_run(rt: HostRuntime) -> Result<(), Fail> {
     let alloc = rt.alloc();
     let program = program(alloc)?.ok_or("a class")?;
-    let labels = small_labels(&rt, alloc, &program)?;
+    let policy = small_policy(&rt, alloc, &program)?;
+    let labels = policy.labels();
     let numbers = [0, 7, 1, 4294967295, 2, 0, 3, 5, 0];
     assert_eq!(rt;
-        outcome(alloc, &program, &labels, Some(5), &numbers)?,
+        outcome(alloc, &program, labels, Some(5), &numbers)?,
         (Some((49, 6)), true)
     );
     assert_eq!(rt;
-        outcome(alloc, &program, &labels, Some(5), &numbers[..7])?,
+        outcome(alloc, &program, labels, Some(5), &numbers[..7])?,
         (None, false)
     );
     assert_eq!(rt;
-        outcome(alloc, &program, &labels, Some(5), &numbers[..8])?,
+        outcome(alloc, &program, labels, Some(5), &numbers[..8])?,
         (Some((49, 6)), false)
     );
     assert_eq!(rt;
-        outcome(alloc, &program, &labels, Some(5), &[9; 12])?,
+        outcome(alloc, &program, labels, Some(5), &[9; 12])?,
         (Some((49, 6)), true)
     );
     assert_eq!(rt;
-        outcome(alloc, &program, &labels, Some(i32::MAX), &numbers)?,
+        outcome(alloc, &program, labels, Some(i32::MAX), &numbers)?,
         (Some((49, i32::MIN)), true)
     );
     assert_eq!(rt;
-        outcome(alloc, &program, &labels, None, &numbers)?,
+        outcome(alloc, &program, labels, None, &numbers)?,
         (Some((49, 1)), true)
     );
     Ok(())
