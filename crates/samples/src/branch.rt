@@ -1,4 +1,5 @@
 //! Class A, whose main is a branch.
+ghost use Rattle.std.specs.Prelude.{◌≡◌, [], ◌∷◌, take, drop, codes};
 
 /// `class A { static native int get(); static native void show(int i); static void main() { if (get() > 0) show(1); } }` as
 /// javac writes it.
@@ -53,16 +54,23 @@ entry = \"A.main()V\"
 
 /// Class A, 319 bytes. Entry 4 of its pool stands at place 25, the pool ends before 180, the methods begin at 192, 235, 243 and
 /// 251, the code of the first at 214 and that of `main` at 273.
-pub fn class_a() -> &'static [u8; 319] {
+pub fn class_a() -> &'static [u8; 319]
+    ensures head { take 10 result.now ≡ 0xca ∷ 0xfe ∷ 0xba ∷ 0xbe ∷ 0 ∷ 0 ∷ 0 ∷ 0x34 ∷ 0 ∷ 23 ∷ [] }
+    ensures main { take 11 (drop 273 result.now) ≡ 0xb8 ∷ 0 ∷ 2 ∷ 0x9e ∷ 0 ∷ 7 ∷ 4 ∷ 0xb8 ∷ 0 ∷ 3 ∷ 0xb1 ∷ [] }
+{
     &CLASS_A
 }
 
 /// The listing of class A.
-pub fn listing_of_a() -> &'static str {
+pub fn listing_of_a() -> &'static str
+    ensures { take 92 result.now ≡ codes "class A super java/lang/Object flags 0x0020\nmethod <init> ()V flags 0x0000 stack 1 locals 1\n" }
+{
     LISTING
 }
 
 /// A policy that labels both natives of class A with its one level.
-pub fn policy_of_a() -> &'static str {
+pub fn policy_of_a() -> &'static str
+    ensures { result.now ≡ codes "levels = [\"low\"]\nentry = \"A.main()V\"\n[sources]\n\"A.get()I\" = \"low\"\n[sinks]\n\"A.show(I)V\" = \"low\"\n" }
+{
     POLICY
 }

@@ -1,4 +1,5 @@
 //! The worked program: class Main, whose main is one straight line.
+ghost use Rattle.std.specs.Prelude.{◌≡◌, [], ◌∷◌, take, drop, codes};
 
 /// Main with the natives secret()I, get()I, show(I)V and main()V: get, istore_0, secret, istore_1, iload_0, iconst_1, iadd,
 /// show, return.
@@ -40,21 +41,30 @@ end
 
 /// Class Main, 206 bytes, which shows what `get` gave. Its pool ends before place 127, its code begins at 185. With the byte 0x1b
 /// at place 193 it shows what `secret` gave.
-pub fn worked_class() -> &'static [u8; 206] {
+pub fn worked_class() -> &'static [u8; 206]
+    ensures head { take 10 result.now ≡ 0xca ∷ 0xfe ∷ 0xba ∷ 0xbe ∷ 0 ∷ 0 ∷ 0 ∷ 0x34 ∷ 0 ∷ 19 ∷ [] }
+    ensures main { take 15 (drop 185 result.now) ≡ 0xb8 ∷ 0 ∷ 14 ∷ 0x3b ∷ 0xb8 ∷ 0 ∷ 16 ∷ 0x3c ∷ 0x1a ∷ 4 ∷ 0x60 ∷ 0xb8 ∷ 0 ∷ 18 ∷ 0xb1 ∷ [] }
+{
     &MAIN
 }
 
 /// The levels, the flow and the entry of its policy.
-pub fn worked_head() -> &'static str {
+pub fn worked_head() -> &'static str
+    ensures { result.now ≡ codes "levels = [\"low\", \"high\"]\nflows = [[\"low\", \"high\"]]\nentry = \"Main.main()V\"\n" }
+{
     HEAD
 }
 
 /// The labels of its policy: `get` and `show` are low, `secret` is high.
-pub fn worked_labels() -> &'static str {
+pub fn worked_labels() -> &'static str
+    ensures { result.now ≡ codes "[sources]\n\"Main.get()I\" = \"low\"\n\"Main.secret()I\" = \"high\"\n[sinks]\n\"Main.show(I)V\" = \"low\"\n" }
+{
     LABELS
 }
 
 /// The report on the variant that shows the secret.
-pub fn worked_report() -> &'static str {
+pub fn worked_report() -> &'static str
+    ensures { take 72 result.now ≡ codes "joana report 1\nrefused chain\nobserver low\nfrom Main.main()V [] retval 4\n" }
+{
     REPORT
 }
