@@ -1,8 +1,9 @@
--- Two programs as literal data. The one divides by zero and catches what comes of it; in the other a thread starts a second, and each
+-- Two programs as literal data, and what instructions and calls may ask where nothing fits. The one divides by zero and catches what comes of it; in the other a thread starts a second, and each
 -- shows an int. Both show at the same native method.
 --   static void main() { try { int i = 1 / 0; } catch (Throwable t) { show(5); } }
 --   class Main extends Thread { static void main() { new Main().start(); show(2); }  public void run() { show(1); } }
-use Rattle.std.specs.Prelude.{ℕ, List, [], ◌∷◌, Some, None, codes}
+use Rattle.std.specs.Prelude.{ℕ, ◌==◌, Bool, true, false, List, [], ◌∷◌, Some, None, codes}
+use Rattle.jo_text.specs.declared.descriptors.Base.TheVariants.{Int}
 use Rattle.jo_prog.specs.declared.labels.Label.TheVariants.{Sink}
 use Rattle.jo_prog.specs.declared.labels.Labels.{Labels}
 use Rattle.jo_prog.specs.declared.program.Program.{Program}
@@ -12,8 +13,12 @@ use Rattle.jo_prog.specs.declared.program.Code.{Code}
 use Rattle.jo_prog.specs.declared.program.Operand.{Operand}
 use Rattle.jo_prog.specs.declared.program.Operand.TheVariants.{Unused, Member, OfType}
 use Rattle.jo_prog.specs.declared.program.TypeRef.TheVariants.{Class as OfClass}
+use Rattle.jo_prog.specs.declared.calls.Taken.TheVariants.{Start, Nothing}
 use Rattle.jo_prog.specs.Program.{program_with}
 use Rattle.jo_prog.specs.PreludeClasses.{object_class}
+use Rattle.jo_prog.specs.Values.{array}
+use Rattle.machine.specs.Execution.{Ways, Fits}
+use Rattle.machine.specs.Invocation.{Callee}
 
 abbrev pub code_without_rows : List ℕ → Code
 code_without_rows bytes = record { max_stack = 2; max_locals = 1; bytes = bytes; rows = [] }
@@ -98,3 +103,22 @@ starting_methods =
 abbrev pub starting_program : Program
 starting_program =
     program_with (object_class ∷ object_class ∷ object_class ∷ thread_class ∷ main_class 3 (1 ∷ 2 ∷ 3 ∷ []) starting_operands ∷ []) [] starting_methods
+
+-- ---- where nothing fits
+
+-- at every address stands an array of three ints
+abbrev pub arrays_of_three : Ways ℕ
+arrays_of_three = record { same = ◌==◌; info = λ a. array (record { dims = 0; base = Int }) 3; text = λ text. None }
+
+abbrev pub nothing_fits : Fits
+nothing_fits = record { of_type = λ info type. false; as_element = λ type info. false }
+
+-- a call that takes Thread.start for every receiver
+abbrev pub starts_all : Bool → Callee
+starts_all implements = record {
+  has_receiver = true;
+  implements = λ info. implements;
+  taken = λ info. Start;
+  run = λ info. Nothing;
+  label = λ m. None;
+}

@@ -1,14 +1,15 @@
 //! Laws of the machine. Each function is empty: what it ensures is the law.
 ghost use Rattle.std.specs.Prelude.{◌≡◌, ℕ, Bool, true, false, pos, negsuc, List, [], ◌∷◌, map, replicate, Option, Some, None};
 ghost use Rattle.jo_prog.specs.declared.runs.Event.TheVariants.{Out};
-ghost use Rattle.jo_prog.specs.Values.{Value, Info};
+ghost use Rattle.jo_prog.specs.declared.sites.Cause.TheVariants.{NullBase, BadIndex, WrongElement, MissingInterface, SecondStart};
+ghost use Rattle.jo_prog.specs.Values.{Value, int, null, ref, Info};
 ghost use Rattle.jo_text.specs.declared.descriptors.Base.TheVariants.{Byte, Short, Boolean};
 ghost use Rattle.machine.specs.Arithmetic.{int_op, narrow, kept_by};
-ghost use Rattle.machine.specs.Instructions.{Instruction};
-ghost use Rattle.machine.specs.Execution.{Ways, Fits, exec, cell_read};
-ghost use Rattle.machine.specs.Invocation.{Callee, invoked};
+ghost use Rattle.machine.specs.Instructions.{Instruction, stores_element};
+ghost use Rattle.machine.specs.Execution.{Ways, Fits, raises, only, exec, cell_read};
+ghost use Rattle.machine.specs.Invocation.{Callee, fails, invoked};
 ghost use Rattle.machine.specs.Runs.{run};
-ghost use Rattle.machine.specs.Worked.{dividing_program, starting_program, shows_at};
+ghost use Rattle.machine.specs.Worked.{dividing_program, starting_program, shows_at, arrays_of_three, nothing_fits, starts_all};
 ghost use Rattle.machine.specs.Renamings.{IsRenaming, Both, RenamedValue, RenamedValues, RenamedOutcome, RenamedCell, RenamedInvoked};
 
 /// Addresses that others are renamed to, one to one.
@@ -46,4 +47,12 @@ pub fn worked_ints()
     ensures bits { map (λ op. int_op op (pos 12) (pos 10)) (126 ∷ 128 ∷ 130 ∷ []) ≡ Some (pos 8) ∷ Some (pos 14) ∷ Some (pos 6) ∷ [] }
     ensures narrows { map (λ op. narrow op (pos 65535)) (145 ∷ 146 ∷ 147 ∷ []) ≡ negsuc 0 ∷ pos 65535 ∷ negsuc 0 ∷ [] }
     ensures kept { map (λ base. kept_by base (pos 258)) (Boolean ∷ Byte ∷ Short ∷ []) ≡ pos 0 ∷ pos 2 ∷ pos 258 ∷ [] }
+{}
+
+/// What is raised where several things are wrong: of a store the null array first, then the bad index, then the wrong element, and of
+/// a call the null receiver, then the missing interface, then the second start.
+pub fn worked_raises()
+    ensures stores { map (exec arrays_of_three nothing_fits stores_element None) ((ref 0 ∷ int (pos 3) ∷ null ∷ []) ∷ (ref 0 ∷ int (pos 3) ∷ ref 1 ∷ []) ∷ (ref 0 ∷ int (pos 2) ∷ ref 1 ∷ []) ∷ []) ≡ only (raises NullBase) ∷ only (raises BadIndex) ∷ only (raises WrongElement) ∷ [] }
+    ensures receivers { map (invoked (starts_all false) arrays_of_three.info (λ a. true)) ((null ∷ []) ∷ (ref 1 ∷ []) ∷ []) ≡ Some (fails NullBase) ∷ Some (fails MissingInterface) ∷ [] }
+    ensures starts { invoked (starts_all true) arrays_of_three.info (λ a. true) (ref 1 ∷ []) ≡ Some (fails SecondStart) }
 {}
