@@ -1,8 +1,4 @@
-pub mod PolicyLabels
 pub mod PolicyParts
-pub mod FewLevels
-pub mod PolicyReads
-pub mod PolicySteps
 pub mod MethodEntries
 pub mod Tables
 pub mod PolicyOrders

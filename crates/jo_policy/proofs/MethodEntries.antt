@@ -1,5 +1,5 @@
 -- The index of methods by their spellings.
-use Rattle.std.proofs.Common.{◌≡◌, ℕ, ◌+◌, ◌<◌, ◌≤◌, ◌&&◌, get_or, suc, zero, Bool, true, false, cond, List, [], ◌∷◌, ◌++◌, length, drop, map, Option, Some, None, option_map, refl, sym, ap, ◌∙◌, subst, Vec, Global, arith, IfSome, add-one}
+use Rattle.std.proofs.Common.{◌≡◌, ℕ, ◌+◌, ◌<◌, ◌≤◌, ◌&&◌, get_or, suc, zero, Bool, true, false, cond, List, [], ◌∷◌, ◌++◌, length, drop, map, Option, Some, None, refl, sym, ap, ◌∙◌, subst, Vec, Global, arith, IfSome}
 use Rattle.std.specs.Map.{lookup}
 use Rattle.std.specs.Option.{is_some}
 use Rattle.std.specs.Str.{bytes_eq}
@@ -12,8 +12,7 @@ use Rattle.jo_prog.specs.FileClasses.{is_of_files}
 use Rattle.jo_prog.specs.Program.{method_at}
 use Rattle.jo_prog.specs.Spelling.{spelled_in}
 use Rattle.jo_policy.specs.FileMethods.{is_spelled, named_from, method_named, entry_in, entry_of, with_entry, with_method}
-use Rattle.jo_policy.proofs.PolicyParts.{at_some}
-use Rattle.jo_policy.proofs.PolicyLabels.{method_below}
+use Rattle.jo_policy.proofs.PolicyParts.{at_some, method_below}
 
 -- ---- one look-up
 

@@ -1,9 +1,9 @@
 -- Levels with different names that don't flow to each other, by the order that they give.
-use Rattle.std.proofs.Common.{◌≡◌, ℕ, zero, suc, ◌<◌, ◌≤◌, Bool, true, false, nat_lt, List, [], ◌∷◌, length, Some, slice_get, refl, sym, ◌∙◌, arith, inl, inr}
+use Rattle.std.proofs.Common.{◌≡◌, ℕ, suc, ◌<◌, ◌≤◌, Bool, true, false, nat_lt, List, [], ◌∷◌, Some, slice_get, refl, sym, ◌∙◌, arith, inl, inr}
 use Rattle.std.specs.List.{AllByRecursion}
 use Rattle.std.proofs.lemmas.Bool.{ltb-true, ltb-false}
 use Rattle.std.proofs.lemmas.Option.{slice_get_within}
-use Rattle.jo_order.specs.Orders.{IsRepeated, IsUnknown, IsCycle, AreDistinct, AreKnown}
+use Rattle.jo_order.specs.Orders.{IsCycle, AreDistinct, AreKnown}
 use Rattle.jo_prog.specs.Labels.{flows_by}
 use Rattle.jo_prog.proofs.Flows.{along_from_flows}
 

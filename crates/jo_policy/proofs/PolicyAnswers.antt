@@ -1,11 +1,11 @@
 -- What is answered of a tree, step by step.
-use Rattle.std.proofs.Common.{◌≡◌, ℕ, List, [], sym, ap, ◌∙◌, subst}
-use Rattle.std.specs.Prelude.{Result, Ok, Err, IfOk, IfErr}
+use Rattle.std.proofs.Common.{◌≡◌, ℕ, List, [], subst}
+use Rattle.std.specs.Prelude.{Ok, Err, IfOk, IfErr}
 use Rattle.toml.specs.Data.{Members}
 use Rattle.jo_order.specs.Orders.{GiveOrder}
 use Rattle.jo_prog.specs.declared.program.Program.{Program}
 use Rattle.policy_tree.specs.declared.faults.PolicyFault.{PolicyFault}
-use Rattle.policy_tree.specs.declared.faults.PolicyFault.TheVariants.{NotToml, Key, UnknownLevel, Order, MissingMethod, WrongShape, UnlabelledNative, TwiceLabelled, ReleaseUpward, ReleaseWithThreads, Entry, Memory}
+use Rattle.policy_tree.specs.declared.faults.PolicyFault.TheVariants.{Memory}
 use Rattle.policy_tree.specs.declared.written.WrittenPolicy.{WrittenPolicy}
 use Rattle.policy_tree.specs.Outcomes.{Fails, Gives}
 use Rattle.policy_tree.specs.PolicyTree.{Read, written_of}

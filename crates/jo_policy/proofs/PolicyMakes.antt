@@ -1,9 +1,8 @@
 -- How the labels of a program are made.
-use Rattle.std.proofs.Common.{◌≡◌, ℕ, Bool, ◌+◌, length, List, [], ◌∷◌, sym, ap, ◌∙◌, refl, arith}
+use Rattle.std.proofs.Common.{◌≡◌, ℕ, Bool, length, List, sym, ap, refl}
 use Rattle.std.specs.Prelude.{Result, Ok, Err}
 use Rattle.jo_order.specs.declared.Levels.{Levels}
 use Rattle.jo_order.specs.Flowing.{flows, FlowsBy}
-use Rattle.jo_prog.specs.declared.labels.Label.{Label}
 use Rattle.jo_prog.specs.declared.program.Program.{Program}
 use Rattle.jo_prog.specs.Labels.{flows_by}
 use Rattle.policy_tree.specs.declared.faults.PolicyFault.{PolicyFault}
@@ -13,11 +12,10 @@ use Rattle.policy_tree.specs.Outcomes.{◌>>=◌, or_fault, refused}
 use Rattle.jo_policy.specs.declared.numbering.NumberedPolicy.{NumberedPolicy}
 use Rattle.jo_policy.specs.declared.numbering.NumberedLabel.{NumberedLabel}
 use Rattle.jo_policy.specs.FileMethods.{entry_named}
-use Rattle.jo_policy.specs.Labelling.{Item, placed_by, labelled_of, first_twice, first_misshapen, first_unlabelled, first_upward, unlabelled_from, table_at, table_of, ordered_from}
+use Rattle.jo_policy.specs.Labelling.{Item, placed_by, labelled_of, first_twice, first_misshapen, first_unlabelled, first_upward, table_of, ordered_from}
 use Rattle.jo_policy.specs.Policies.{labels_of, labels_with}
 use Rattle.jo_policy.specs.Threads.{start_beside, with_threads}
 use Rattle.jo_policy.proofs.PolicyOrders.{same_flow}
-use Rattle.jo_policy.proofs.Tables.{unlabelled_in}
 
 pub same_labelled : (program : Program) (pairs : List (ℕ × ℕ)) (order : Levels) (labels : List NumberedLabel) → FlowsBy pairs order
     → labelled_of (flows_by pairs) program labels ≡ labelled_of (flows order) program labels

@@ -1,6 +1,5 @@
 -- The order of a policy's levels, by rows and by pairs.
 use Rattle.std.proofs.Common.{◌≡◌, ℕ, Bool, true, false, List, refl, sym}
-use Rattle.jo_ids.specs.Closure.{Closure}
 use Rattle.jo_order.specs.declared.Levels.{Levels}
 use Rattle.jo_order.specs.Flowing.{flows, FlowsBy}
 use Rattle.jo_prog.specs.Labels.{flows_by}

@@ -4,12 +4,12 @@ use Rattle.std.proofs.lemmas.List.{drop_more}
 use Rattle.policy_tree.specs.Outcomes.{◌>>=◌, behind}
 use Rattle.policy_tree.specs.declared.runs.WrittenInput.{WrittenInput}
 use Rattle.jo_policy.specs.declared.run_file.PlacedInput.{PlacedInput}
-use Rattle.std.specs.Prelude.{Result, Ok, Err, IfErr}
+use Rattle.std.specs.Prelude.{Ok, Err, IfErr}
 use Rattle.toml.specs.Data.{Members}
 use Rattle.jo_prog.specs.declared.labels.Labels.{Labels}
 use Rattle.jo_prog.specs.declared.program.Program.{Program}
 use Rattle.policy_tree.specs.declared.runs.RunFileFault.{RunFileFault}
-use Rattle.policy_tree.specs.declared.runs.RunFileFault.TheVariants.{NotToml, Key, Source, Range, Memory}
+use Rattle.policy_tree.specs.declared.runs.RunFileFault.TheVariants.{Memory}
 use Rattle.policy_tree.specs.RunTree.{RunRead, RunFails, RunGives}
 use Rattle.jo_policy.specs.declared.run_file.RunPlan.{RunPlan}
 use Rattle.jo_policy.specs.Policies.{IsTree}

@@ -1,14 +1,12 @@
 -- Calls that may take Thread.start: what they name is named so, and it is enough to look at the classes of threads.
-use Rattle.std.proofs.Common.{◌≡◌, ℕ, zero, suc, ◌+◌, ◌-◌, ◌<◌, ◌&&◌, ◌||◌, ◌==◌, Bool, true, false, cond, List, [], ◌∷◌, ◌++◌, length, Option, Some, None, IfSome, IsSome, is_some, option_and_then, slice_get, refl, sym, ap, ◌∙◌, subst, arith, rules, codes}
+use Rattle.std.proofs.Common.{◌≡◌, ℕ, ◌+◌, ◌-◌, ◌<◌, ◌&&◌, ◌||◌, ◌==◌, Bool, true, false, cond, List, [], ◌∷◌, ◌++◌, Option, Some, None, IfSome, is_some, option_and_then, refl, sym, ap, ◌∙◌, subst, rules, codes}
 use Rattle.std.specs.List.{filter, list_any}
-use Rattle.std.specs.Option.{option_or}
 use Rattle.std.specs.Str.{bytes_eq}
 use Rattle.std.proofs.lemmas.List.{append_assoc}
 use Rattle.std.proofs.lemmas.Bool.{and_parts, false≢true}
 use Rattle.std.proofs.lemmas.Option.{none-some, same_Some}
 use Rattle.std.proofs.lemmas.Slice.Eq.{bytes_eq-Decides}
 use Rattle.jo_insn.specs.AccessFlags.{has_flag, native_flag}
-use Rattle.jo_prog.specs.declared.calls.Taken.{Taken}
 use Rattle.jo_prog.specs.declared.calls.Taken.TheVariants.{Code, Start, Join, Native, Nothing}
 use Rattle.jo_prog.specs.declared.program.Program.{Program}
 use Rattle.jo_prog.specs.declared.program.Class.{Class}
@@ -18,10 +16,9 @@ use Rattle.jo_prog.specs.Hierarchy.{is_subtype, own_method, own_instance_method,
 use Rattle.jo_prog.specs.Numbers.{count_from}
 use Rattle.jo_prog.specs.Program.{method_at, class_at, has_signature, first_with}
 use Rattle.jo_prog.specs.Starts.{is_start, class_numbers, starts_for, may_start_by}
-use Rattle.jo_prog.specs.Walks.{first_found, IsFirst}
 use Rattle.jo_prog.proofs.WalkLemmas.{is_first}
 use Rattle.jo_policy.specs.Threads.{selects_start, thread_classes, is_named_start, HasStartName}
-use Rattle.jo_policy.proofs.PolicySteps.{count_from-step}
+use Rattle.jo_policy.proofs.PolicyParts.{count_from-step}
 
 -- ---- names of what is found
 

@@ -1,9 +1,8 @@
 -- Labels in a table by their methods.
 use Rattle.std.proofs.Common.{◌≡◌, ℕ, zero, suc, ◌+◌, ◌-◌, ◌++◌, get_or, ◌<◌, ◌≤◌, ◌==◌, ◌||◌, Bool, true, false, cond, List, [], ◌∷◌, length, drop, map, Option, Some, None, IfSome, is_some, refl, sym, ap, ◌∙◌, subst, arith, append_assoc}
-use Rattle.std.specs.List.{list_any, slice_get, AllByRecursion}
+use Rattle.std.specs.List.{list_any, AllByRecursion}
 use Rattle.std.specs.Prelude.{slice_set}
 use Rattle.std.proofs.lemmas.Bool.Decides.{nat_tests}
-use Rattle.std.proofs.lemmas.Option.{slice_get_within}
 use Rattle.policy_tree.specs.declared.faults.PolicyFault.{PolicyFault}
 use Rattle.std.specs.Prelude.{Result, Ok, Err, IfOk}
 use Rattle.policy_tree.specs.declared.faults.PolicyFault.TheVariants.{MissingMethod}
@@ -17,7 +16,7 @@ use Rattle.jo_policy.specs.FileMethods.{method_named}
 use Rattle.jo_policy.specs.declared.numbering.NumberedLabel.{NumberedLabel}
 use Rattle.jo_policy.specs.Labelling.{Item, placed_by, first_twice, table_of, table_at, unlabelled_from, is_unlabelled, ordered_from}
 use Rattle.jo_policy.proofs.MethodEntries.{named_from-below}
-use Rattle.jo_policy.proofs.PolicySteps.{count_from-step}
+use Rattle.jo_policy.proofs.PolicyParts.{count_from-step}
 use Rattle.std.proofs.lemmas.List.{drop_more}
 
 -- ---- reading a table

@@ -1,6 +1,6 @@
 -- A policy without a fault labels its program well.
-use Rattle.std.proofs.Common.{◌≡◌, ℕ, zero, suc, ◌+◌, ◌<◌, ◌≤◌, ◌==◌, ◌&&◌, Bool, true, false, not, cond, List, [], ◌∷◌, length, map, get_or, Option, Some, None, IfSome, IsSome, is_some, is_none, refl, sym, ap, ◌∙◌, subst, arith, codes}
-use Rattle.std.specs.Prelude.{Result, Ok, Err, IfOk, find, option_map, option_and_then, if◌then◌else◌}
+use Rattle.std.proofs.Common.{◌≡◌, ℕ, zero, suc, ◌+◌, ◌<◌, ◌==◌, ◌&&◌, Bool, true, false, not, cond, List, [], ◌∷◌, length, map, Option, Some, None, IfSome, IsSome, is_some, is_none, refl, sym, ap, ◌∙◌, subst, arith}
+use Rattle.std.specs.Prelude.{Result, Ok, Err, IfOk, find, option_and_then}
 use Rattle.std.specs.List.{AllByRecursion, list_any, slice_get}
 use Rattle.std.specs.List.Sorted.{IsStrictlyIncreasing}
 use Rattle.std.specs.Str.{bytes_eq}
@@ -17,7 +17,7 @@ use Rattle.jo_prog.specs.declared.program.Program.{Program}
 use Rattle.jo_prog.specs.declared.program.Method.{Method}
 use Rattle.jo_prog.specs.declared.program.Code.{Code}
 use Rattle.jo_prog.specs.FileClasses.{is_of_files}
-use Rattle.jo_prog.specs.Labels.{label_of, label_among, flows_by}
+use Rattle.jo_prog.specs.Labels.{label_among, flows_by}
 use Rattle.jo_prog.specs.Numbers.{count_from}
 use Rattle.jo_prog.specs.PlainCode.{IsLabelledNative, IsEntry, IsWellLabelled, is_release, is_entry_desc, HasGoodLevels, desc_for}
 use Rattle.jo_prog.specs.Program.{method_at}
@@ -32,14 +32,12 @@ use Rattle.policy_tree.specs.Outcomes.{◌>>=◌, or_fault, refused}
 use Rattle.jo_policy.specs.declared.numbering.NumberedPolicy.{NumberedPolicy}
 use Rattle.jo_policy.specs.declared.numbering.NumberedLabel.{NumberedLabel}
 use Rattle.jo_policy.specs.FileMethods.{is_spelled, is_entry, entry_with, named_from, method_named, entry_named}
-use Rattle.jo_policy.specs.Labelling.{Item, placed_by, labelled_of, first_twice, first_misshapen, misshapen_by, is_misshapen, first_unlabelled, is_unlabelled, first_upward, is_upward, unlabelled_from, table_at, table_of, ordered_from, method_of}
-use Rattle.jo_policy.specs.Numbering.{level_named, levels_numbered, observers_numbered, label_numbered, labels_numbered, pairs_numbered, numbered_of}
-use Rattle.jo_policy.specs.PolicyFile.{place_from, fits_label, with_label}
+use Rattle.jo_policy.specs.Labelling.{Item, fits_label, with_label, placed_by, labelled_of, first_twice, first_misshapen, misshapen_by, is_misshapen, first_unlabelled, is_unlabelled, first_upward, is_upward, unlabelled_from, table_of, ordered_from, method_of}
+use Rattle.jo_policy.specs.Numbering.{place_from, level_named, levels_numbered, observers_numbered, label_numbered, labels_numbered, pairs_numbered, numbered_of}
 use Rattle.jo_policy.specs.Policies.{labels_of, labels_with}
 use Rattle.jo_policy.specs.Threads.{start_beside, with_threads}
 use Rattle.jo_policy.proofs.OrderedLevels.{names_apart, no_mutual, pairs_known}
-use Rattle.jo_policy.proofs.PolicyLabels.{Ascends, ascends_before, in_order}
-use Rattle.jo_policy.proofs.PolicyParts.{if_then_some, place_from-below, count_from-below}
+use Rattle.jo_policy.proofs.PolicyParts.{if_then_some, place_from-below, count_from-below, Ascends, ascends_before, in_order}
 use Rattle.jo_policy.proofs.Tables.{ok_then, at_ok, label_in_order, table_at-among}
 
 -- ---- a reader that answers Ok
@@ -255,7 +253,7 @@ native_by : (program : Program) (labels : Labels) (item : Item) (o : Option Meth
 native_by program labels item None found files fits has down =
     let other : true ≡ false = subst (λ (o : Option Method). misshapen_by o item.1 ≡ false) found fits in absurd (cc)
 native_by program labels item (Some method) found files fits has down =
-    let shape : fits_label method (Some item.1) ≡ true = not_not _ (subst (λ (o : Option Method). misshapen_by o item.1 ≡ false) found fits) in
+    let shape : fits_label method item.1 ≡ true = not_not _ (subst (λ (o : Option Method). misshapen_by o item.1 ≡ false) found fits) in
     let (is_static, rest) = and_parts (has_flag static_flag method.flags) _ shape in
     let (is_native, more) = and_parts (has_flag native_flag method.flags) _ rest in
     let (without_code, desc) = and_parts (is_none method.code) (bytes_eq method.desc (desc_for item.1)) more in

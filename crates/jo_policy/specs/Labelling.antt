@@ -1,9 +1,10 @@
 -- The labels of a program's methods (this project's own). Each thing that may be wrong is a test of one
 -- label or method, and the first in order for which it holds is the fault: labels in the order of the
 -- tables, in a table in the order of keys.
-use Rattle.std.specs.Prelude.{ℕ, suc, Bool, true, false, not, ◌&&◌, ◌==◌, if◌then◌else◌, List, [], ◌∷◌, length, map, Option, Some, None, is_none, option_map, option_and_then, Result, Ok, Err, find, slice_get}
+use Rattle.std.specs.Prelude.{ℕ, suc, Bool, true, false, not, ◌&&◌, ◌==◌, if◌then◌else◌, List, [], ◌∷◌, length, map, Option, Some, None, is_none, option_map, option_and_then, Ok, find, slice_get}
 use Rattle.std.specs.List.{list_any}
-use Rattle.jo_insn.specs.AccessFlags.{has_flag, native_flag}
+use Rattle.std.specs.Str.{bytes_eq}
+use Rattle.jo_insn.specs.AccessFlags.{has_flag, static_flag, native_flag}
 use Rattle.jo_prog.specs.declared.labels.Label.{Label}
 use Rattle.jo_prog.specs.declared.labels.Label.TheVariants.{Source, Sink, Release}
 use Rattle.jo_prog.specs.declared.program.Program.{Program}
@@ -11,12 +12,12 @@ use Rattle.jo_prog.specs.declared.program.Method.{Method}
 use Rattle.jo_prog.specs.FileClasses.{is_of_files}
 use Rattle.jo_prog.specs.Labels.{label_among}
 use Rattle.jo_prog.specs.Numbers.{count_from}
+use Rattle.jo_prog.specs.PlainCode.{desc_for}
 use Rattle.jo_prog.specs.Program.{method_at}
 use Rattle.policy_tree.specs.declared.faults.PolicyFault.TheVariants.{MissingMethod, TwiceLabelled, WrongShape, UnlabelledNative, ReleaseUpward}
 use Rattle.policy_tree.specs.Outcomes.{◌>>=◌, or_fault, refused}
 use Rattle.policy_tree.specs.PolicyTree.{Read}
 use Rattle.jo_policy.specs.declared.numbering.NumberedLabel.{NumberedLabel}
-use Rattle.jo_policy.specs.PolicyFile.{fits_label, with_label}
 use Rattle.jo_policy.specs.FileMethods.{method_named}
 
 abbrev pub Item : Type 0
@@ -36,10 +37,13 @@ first_twice [] = None
 first_twice (item ∷ items) =
     if list_any (λ (other : Item). other.0 == item.0) items then Some item.0 else first_twice items
 
--- the method isn't a static native of its label's descriptor
+-- the method is a static native of its label's descriptor
+abbrev pub fits_label : Method → Label → Bool
+fits_label m label = has_flag static_flag m.flags && (has_flag native_flag m.flags && (is_none m.code && bytes_eq m.desc (desc_for label)))
+
 abbrev pub misshapen_by : Option Method → Label → Bool
 misshapen_by None label = true
-misshapen_by (Some method) label = not (fits_label method (Some label))
+misshapen_by (Some method) label = not (fits_label method label)
 
 abbrev pub is_misshapen : Program → Item → Bool
 is_misshapen program item = misshapen_by (method_at program item.0) item.1
@@ -80,6 +84,10 @@ table_of count placed = map (label_among placed) (count_from 0 count)
 
 abbrev pub table_at : List (Option Label) → ℕ → Option Label
 table_at table method = option_and_then (λ label. label) (slice_get table method)
+
+abbrev pub with_label : ℕ → Option Label → List (ℕ × Label) → List (ℕ × Label)
+with_label number None items = items
+with_label number (Some label) items = (number, label) ∷ items
 
 -- the methods with a label, in order, where the labels begin with that of a first method
 abbrev pub ordered_from : ℕ → List (Option Label) → List Item

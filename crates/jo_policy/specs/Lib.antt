@@ -1,4 +1,3 @@
-pub mod PolicyFile
 pub mod Numbering
 pub mod FileMethods
 pub mod Labelling

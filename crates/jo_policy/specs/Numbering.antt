@@ -1,6 +1,7 @@
 -- Numbers of levels in the place of their names (this project's own). The names are looked at in the order
 -- of `numbered_of`, and the first that is no level's is the fault.
-use Rattle.std.specs.Prelude.{ℕ, List, [], ◌∷◌, length, Option, Some, None, Result, Ok, Err}
+use Rattle.std.specs.Prelude.{ℕ, suc, if◌then◌else◌, List, [], ◌∷◌, length, Option, Some, None, Ok}
+use Rattle.std.specs.Str.{bytes_eq}
 use Rattle.jo_prog.specs.declared.labels.Label.{Label}
 use Rattle.jo_prog.specs.declared.labels.Label.TheVariants as labels
 use Rattle.jo_prog.specs.Numbers.{count_from}
@@ -13,7 +14,11 @@ use Rattle.policy_tree.specs.Outcomes.{◌>>=◌, or_fault}
 use Rattle.policy_tree.specs.PolicyTree.{Read}
 use Rattle.jo_policy.specs.declared.numbering.NumberedLabel.{NumberedLabel}
 use Rattle.jo_policy.specs.declared.numbering.NumberedPolicy.{NumberedPolicy}
-use Rattle.jo_policy.specs.PolicyFile.{place_from}
+
+-- the number of the first name that is a text, where the names have numbers from a first one on
+abbrev pub place_from : ℕ → List (List ℕ) → List ℕ → Option ℕ
+place_from first [] text = None
+place_from first (name ∷ names) text = if bytes_eq name text then Some first else place_from (suc first) names text
 
 -- the level with a name, by its place among the levels
 abbrev pub level_named : List (List ℕ) → List ℕ → Read ℕ

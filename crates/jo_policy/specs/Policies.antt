@@ -1,5 +1,5 @@
 -- A policy of a program, and its first fault (this project's own).
-use Rattle.std.specs.Prelude.{◌≡◌, ℕ, ◌<◌, ◌≤◌, Bool, List, [], ◌∷◌, length, Option, Some, None, option_map, option_and_then, Result, Ok, Err, slice_get}
+use Rattle.std.specs.Prelude.{◌≡◌, ℕ, List, [], Option, Some, None, option_map, option_and_then, Result, Ok, Err, slice_get}
 use Rattle.std.specs.Str.{IsUtf8}
 use Rattle.toml.specs.Data.{Members}
 use Rattle.toml.specs.Parse.{parse_document}
@@ -10,7 +10,6 @@ use Rattle.jo_prog.specs.declared.labels.Label.{Label}
 use Rattle.jo_prog.specs.declared.labels.Labels.{Labels}
 use Rattle.jo_prog.specs.declared.program.Program.{Program}
 use Rattle.jo_prog.specs.Labels.{flows_by}
-use Rattle.policy_tree.specs.declared.faults.LevelFault.{LevelFault}
 use Rattle.policy_tree.specs.declared.faults.LevelFault.TheVariants.{Twice, TooMany, Cycle}
 use Rattle.policy_tree.specs.declared.faults.PolicyFault.{PolicyFault}
 use Rattle.policy_tree.specs.declared.faults.PolicyFault.TheVariants.{NotToml, Order, Entry, Memory}

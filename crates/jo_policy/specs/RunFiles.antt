@@ -1,7 +1,7 @@
 -- Run files (this project's own). First each key must be there and of its kind, then each key of the inputs
 -- must spell a source, then each integer must be in its range: that of the steps, the schedule's and the
 -- inputs'.
-use Rattle.std.specs.Prelude.{◌≡◌, ℕ, ℤ, Bool, true, false, if◌then◌else◌, List, [], ◌∷◌, Option, Some, None, option_and_then, Result, Ok, Err}
+use Rattle.std.specs.Prelude.{◌≡◌, ℕ, Bool, true, false, if◌then◌else◌, List, [], ◌∷◌, Option, Some, None, option_and_then, Ok, Err}
 use Rattle.toml.specs.Data.{Members}
 use Rattle.jo_prog.specs.declared.labels.Label.{Label}
 use Rattle.jo_prog.specs.declared.labels.Label.TheVariants as label

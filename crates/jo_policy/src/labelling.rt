@@ -3,17 +3,16 @@ ghost use Rattle.std.specs.Prelude.{◌≡◌, ◌<◌, ◌≤◌, ◌^◌, ◌�
 ghost use Rattle.std.specs.List.{AllByRecursion};
 ghost use Rattle.policy_tree.specs.Outcomes.{Gives, refused, or_fault};
 ghost use Rattle.jo_order.specs.Flowing.{flows as flows_in};
+ghost use Rattle.jo_prog.specs.PlainCode.{desc_for as shape_of};
 ghost use Rattle.jo_prog.specs.Program.{method_at};
 ghost use Rattle.jo_policy.specs.FileMethods.{method_named, IsIndexOf};
-ghost use Rattle.jo_policy.specs.PolicyFile.{fits_label as fits_it};
-ghost use Rattle.jo_policy.specs.Labelling.{placed_by, first_twice, first_misshapen, is_misshapen as misshapen, is_upward as upward, first_upward, is_unlabelled as unlabelled, unlabelled_from, first_unlabelled, table_at, table_of, ordered_from, labelled_of};
+ghost use Rattle.jo_policy.specs.Labelling.{placed_by, fits_label as fits_it, first_twice, first_misshapen, is_misshapen as misshapen, is_upward as upward, first_upward, is_unlabelled as unlabelled, unlabelled_from, first_unlabelled, table_at, table_of, ordered_from, labelled_of};
 ghost use Rattle.jo_policy.specs.LabelTables.{IsByMethod};
 
-use crate::numbering::NumberedLabel;
-use crate::reader::{copy_name, fits_label};
+use crate::numbering::{NumberedLabel, copy_name};
 use crate::spellings::{MethodIndex, find_method};
 use jo_ids::{Id, List, Memory, MethodId};
-use jo_insn::{ACC_NATIVE, has_flag};
+use jo_insn::{ACC_NATIVE, ACC_STATIC, has_flag};
 use jo_order::{Levels, Order};
 use jo_prog::files::is_of_files;
 use jo_prog::labels::Label;
@@ -173,11 +172,31 @@ fn no_twice(count: u32, table: &ByMethod) -> Result<(), PolicyFault>
     }
 }
 
+/// The descriptor that a label asks for.
+fn desc_for(label: Label) -> &'static [u8]
+    ensures { result.now ≡ shape_of label }
+{
+    match label {
+        Label::Source(_) => b"()I",
+        Label::Sink(_) => b"(I)V",
+        Label::Release { from: _, to: _ } => b"(I)I",
+    }
+}
+
+fn fits_label(method: &Method, label: Label) -> bool
+    ensures { result ≡ fits_it method.now label }
+{
+    has_flag(ACC_STATIC, method.flags)
+        && has_flag(ACC_NATIVE, method.flags)
+        && method.code.is_none()
+        && method.desc.as_slice() == desc_for(label)
+}
+
 fn is_misshapen(program: &Program, method: MethodId, label: Label) -> bool
     ensures { result ≡ misshapen program.now (method, label) }
 {
     match method_at(program, method) {
-        Some(method) => !fits_label(method, Some(label)),
+        Some(method) => !fits_label(method, label),
         None => true,
     }
 }

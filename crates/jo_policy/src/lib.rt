@@ -5,14 +5,12 @@ mod labelling;
 pub mod laws;
 mod numbering;
 mod ordering;
-mod reader;
 mod run_file;
 mod spellings;
 mod threads;
 pub mod whole;
 
 pub use policy_tree::{ContextsKey, LevelFault, PolicyFault, RunFileFault};
-pub use reader::read_policy;
 pub use run_file::{RunPlan, read_run};
 
 #[cfg(test)]

@@ -1,11 +1,12 @@
 //! Numbers of levels in the place of their names.
-ghost use Rattle.std.specs.Prelude.{◌≡◌, ◌<◌, ◌^◌, length};
+ghost use Rattle.std.specs.Prelude.{◌≡◌, ◌<◌, ◌^◌, length, IfOk};
+ghost use Rattle.jo_prog.specs.Numbers.{count_from};
 ghost use Rattle.policy_tree.specs.Outcomes.{Gives};
-ghost use Rattle.jo_policy.specs.Numbering.{level_named as level_by, pairs_numbered, levels_numbered, observers_numbered, label_numbered, labels_numbered, numbered_of};
+ghost use Rattle.jo_policy.specs.Numbering.{place_from, level_named as level_by, pairs_numbered, levels_numbered, observers_numbered, label_numbered, labels_numbered, numbered_of};
 
-use crate::reader::{copy_name, count_levels, place_of};
-use jo_ids::{Id, LevelId, List};
+use jo_ids::{Id, LevelId, List, Memory};
 use jo_prog::labels::Label;
+use jo_prog::lists::add;
 use jo_text::Name;
 use policy_tree::{NamedLabel, PolicyFault, WrittenLabel, WrittenPolicy};
 use std::alloc::Global;
@@ -23,6 +24,27 @@ pub struct NumberedPolicy {
     pub flows: List<(u32, u32)>,
     pub observers: List<LevelId>,
     pub labels: List<NumberedLabel>,
+}
+
+pub(crate) fn copy_name(alloc: Global, text: &[u8]) -> Result<Name, Memory>
+    ensures { IfOk result (λ name. name ≡ text.now) }
+{
+    let mut name = Name::new(alloc);
+    name.append(text)?;
+    Ok(name)
+}
+
+/// The number of the first name that is this text.
+fn place_of(names: &[Name], text: &[u8]) -> Option<u32>
+    requires { length names.now < 2 ^ 32 }
+    ensures { result ≡ place_from 0 names.now text.now }
+{
+    for (i, name) in names.iter().enumerate() {
+        if name.as_slice() == text {
+            return Some(i as u32);
+        }
+    }
+    None
 }
 
 /// The number of the level with this name.
@@ -70,6 +92,16 @@ fn number_levels(
         numbered.push(Id::of(level))?;
     }
     Ok(numbered)
+}
+
+fn count_levels(alloc: Global, count: u32) -> Result<List<LevelId>, Memory>
+    ensures { IfOk result (λ levels. levels ≡ count_from 0 count) }
+{
+    let mut levels = List::new(alloc);
+    for level in 0..count {
+        add(&mut levels, Id::of(level))?;
+    }
+    Ok(levels)
 }
 
 fn number_observers(

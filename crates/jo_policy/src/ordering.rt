@@ -4,7 +4,7 @@ ghost use Rattle.jo_order.specs.Orders.{GiveOrder};
 ghost use Rattle.jo_order.specs.Flowing.{FlowsBy};
 ghost use Rattle.jo_policy.specs.Policies.{Answers, named_fault, IsOrderFault};
 
-use crate::reader::copy_name;
+use crate::numbering::copy_name;
 use jo_order::{Levels, OrderFault};
 use jo_text::Name;
 use policy_tree::{LevelFault, PolicyFault};

@@ -1,7 +1,7 @@
-use Rattle.std.proofs.Common.{◌≡◌, ◌<◌, List, length, map, sym, ap, ◌∙◌, subst, arith}
+use Rattle.std.proofs.Common.{◌≡◌, ◌<◌, List, length, sym, ap, ◌∙◌, subst, arith}
 use Rattle.std.specs.List.{AllByRecursion}
 use Rattle.jo_prog.specs.declared.program.Method.{Method}
-use Rattle.jo_policy.specs.Labelling.{Item, table_of}
+use Rattle.jo_policy.specs.Labelling.{Item}
 use Rattle.jo_prog.specs.Labels.{label_among}
 use Rattle.jo_policy.proofs.Tables.{placed_below, table_of-length}
 use Rattle.jo_policy.proofs.labelling.label_methods.Goals as goal

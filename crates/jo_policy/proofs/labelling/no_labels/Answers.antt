@@ -1,8 +1,4 @@
-use Rattle.std.proofs.Common.{◌≡◌, ◌+◌, ◌-◌, ◌++◌, ◌∷◌, [], map, Option, Some, None, sym, ap, ◌∙◌, rules, append_assoc, arith}
-use Rattle.jo_prog.specs.declared.labels.Label.{Label}
-use Rattle.jo_prog.specs.Labels.{label_among}
-use Rattle.jo_prog.specs.Numbers.{count_from}
-use Rattle.jo_policy.proofs.PolicySteps.{count_from-step}
+use Rattle.std.proofs.Common.{◌≡◌, ◌++◌, ◌∷◌, [], None, rules}
 use Rattle.jo_policy.proofs.Tables.{one_none}
 use Rattle.jo_policy.proofs.labelling.no_labels.Goals as goal
 

@@ -1,4 +1,4 @@
-use Rattle.std.proofs.Common.{◌≡◌, List, Option, Some, ap, ◌∙◌, subst, refl}
+use Rattle.std.proofs.Common.{◌≡◌, List, Option, ap, ◌∙◌, subst, refl}
 use Rattle.std.specs.Prelude.{Result, length}
 use Rattle.policy_tree.specs.declared.faults.PolicyFault.{PolicyFault}
 use Rattle.policy_tree.specs.declared.faults.PolicyFault.TheVariants.{UnlabelledNative}

@@ -1,9 +1,9 @@
-use Rattle.std.proofs.Common.{◌≡◌, ℕ, zero, suc, ◌+◌, ◌<◌, ◌%◌, List, [], ◌∷◌, length, map, Some, refl, sym, ap, ◌∙◌, arith}
+use Rattle.std.proofs.Common.{◌≡◌, ℕ, zero, suc, ◌<◌, List, [], ◌∷◌, length, Some, refl, sym, ap, ◌∙◌, arith}
 use Rattle.std.specs.Prelude.{slice_get, slice_index_or}
 use Rattle.std.proofs.Math.Nat.{add-mod_right, mod-eq_of_lt}
 use Rattle.std.proofs.lemmas.List.{length-map}
 use Rattle.jo_prog.specs.Numbers.{count_from}
-use Rattle.jo_policy.specs.Schedules.{picked, repeated}
+use Rattle.jo_policy.specs.Schedules.{picked}
 use Rattle.jo_policy.proofs.laws.schedules_repeat.Goals as goal
 
 count_length : (first n : ℕ) → length (count_from first n) ≡ n

@@ -1,5 +1,5 @@
 use Rattle.std.proofs.Common.{◌≡◌, false, map, is_some, ap, ◌∙◌}
-use Rattle.jo_policy.specs.FileMethods.{entry_in, entries_in, entry_of}
+use Rattle.jo_policy.specs.FileMethods.{entry_in, entry_of}
 use Rattle.jo_policy.proofs.MethodEntries.{spelling_added}
 use Rattle.jo_policy.proofs.spellings.add_spelling.Goals as goal
 

@@ -1,5 +1,5 @@
 use Rattle.std.proofs.Common.{map, ap}
-use Rattle.jo_policy.specs.FileMethods.{entry_in, entries_in, IsIndexOf}
+use Rattle.jo_policy.specs.FileMethods.{entry_in, entries_in}
 use Rattle.jo_policy.proofs.MethodEntries.{none_so_far, next_indexed, all_indexed}
 use Rattle.jo_policy.proofs.spellings.index_methods.Goals as goal
 

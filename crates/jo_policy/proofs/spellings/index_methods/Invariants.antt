@@ -1,4 +1,4 @@
-use Rattle.std.proofs.Common.{◌≡◌, drop}
+use Rattle.std.proofs.Common.{drop}
 use Rattle.jo_policy.specs.FileMethods.{entries_in}
 use Rattle.jo_policy.proofs.MethodEntries.{IsSoFar}
 use Rattle.jo_policy.proofs.spellings.index_methods.Given as goal

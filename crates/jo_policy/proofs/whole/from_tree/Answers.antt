@@ -1,7 +1,6 @@
-use Rattle.std.proofs.Common.{◌≡◌, [], sym, ap, ◌∙◌}
+use Rattle.std.proofs.Common.{◌≡◌, []}
 use Rattle.std.proofs.lemmas.Result.{err_from_is_err_and}
 use Rattle.toml.specs.View.{table_view}
-use Rattle.jo_order.specs.Orders.{GiveOrder}
 use Rattle.jo_policy.proofs.PolicyAnswers.{IsSaid, order_with, key_stops, names_stop, unknown_stops, cycle_stops, policy_answers}
 use Rattle.jo_policy.proofs.whole.from_tree.Goals as goal
 

@@ -1,10 +1,9 @@
-use Rattle.std.proofs.Common.{◌≡◌, sym, ap, ◌∙◌, subst}
-use Rattle.std.specs.Prelude.{Result, Ok, Err}
+use Rattle.std.proofs.Common.{◌≡◌, sym, subst}
+use Rattle.std.specs.Prelude.{Ok, Err}
 use Rattle.std.proofs.lemmas.Result.{err_from_is_err_and}
 use Rattle.jo_order.specs.Flowing.{flows}
-use Rattle.policy_tree.specs.declared.faults.PolicyFault.{PolicyFault}
 use Rattle.policy_tree.specs.declared.faults.PolicyFault.TheVariants.{Entry}
-use Rattle.policy_tree.specs.Outcomes.{Fails, or_fault, refused}
+use Rattle.policy_tree.specs.Outcomes.{or_fault, refused}
 use Rattle.jo_policy.specs.FileMethods.{entry_named}
 use Rattle.jo_policy.specs.Labelling.{labelled_of}
 use Rattle.jo_policy.specs.Policies.{labels_of}

@@ -1,7 +1,7 @@
 use Rattle.std.proofs.Common.{arith}
 use Rattle.std.proofs.lemmas.Grind.{common_steps}
-use Rattle.jo_policy.proofs.PolicySteps.{count_from-step}
-use Rattle.jo_policy.proofs.reader.count_levels.Goals as goal
+use Rattle.jo_policy.proofs.PolicyParts.{count_from-step}
+use Rattle.jo_policy.proofs.numbering.count_levels.Goals as goal
 
 pub loop-level-preserved : goal.loop-level-preserved
 loop-level-preserved c =

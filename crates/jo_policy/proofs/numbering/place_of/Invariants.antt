@@ -1,6 +1,6 @@
 use Rattle.std.proofs.Common.{◌≡◌, drop}
-use Rattle.jo_policy.specs.PolicyFile.{place_from}
-use Rattle.jo_policy.proofs.reader.place_of.Given as goal
+use Rattle.jo_policy.specs.Numbering.{place_from}
+use Rattle.jo_policy.proofs.numbering.place_of.Given as goal
 
 -- no name before this one is the text
 abbrev pub invariant-loop-i : goal.invariant-loop-i

@@ -1,6 +1,6 @@
 use Rattle.std.proofs.Common.{◌≡◌, ◌++◌, ◌-◌}
 use Rattle.jo_prog.specs.Numbers.{count_from}
-use Rattle.jo_policy.proofs.reader.count_levels.Given as goal
+use Rattle.jo_policy.proofs.numbering.count_levels.Given as goal
 
 -- the levels before this one are there
 abbrev pub invariant-loop-level : goal.invariant-loop-level
