@@ -12,7 +12,6 @@ ghost use Rattle.joana_base.specs.declared.status.InputFault.TheVariants.{NotBui
 ghost use Rattle.joana_top.specs.Check.{has_file_code, HasOneCode, CatchesNothing, HasLimits, HasShortLimits, IsFormOf, IsVerdict, IsDecision, IsShown, IsProgramOutcome, IsFilesOutcome, IsCheckOutcome};
 
 use super::stops::{linked, policy_for};
-use plain_graph::sdg;
 use hierarchy::Hierarchy;
 use jo_ids::MethodId;
 use jo_io::Files;
@@ -25,6 +24,7 @@ use joana_base::{
     Answer, InputFault, ProgramFiles, ProgramNames, Refusal, Stop, classes_of, read_program,
 };
 use low_run::refusal;
+use plain_graph::sdg;
 use std::alloc::{AllocError as Memory, Global};
 
 /// What there is to say of the program and the policy.
