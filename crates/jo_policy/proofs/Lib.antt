@@ -7,4 +7,3 @@ pub mod OrderedLevels
 pub mod WholeLabels
 pub mod StartLemmas
 pub mod PolicyAnswers
-pub mod RunAnswers

@@ -3,6 +3,4 @@ pub mod FileMethods
 pub mod Labelling
 pub mod Threads
 pub mod Policies
-pub mod RunFiles
-pub mod Schedules
 pub mod LabelTables

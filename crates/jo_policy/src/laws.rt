@@ -1,21 +1,10 @@
 //! Laws of the definitions. Each function is empty: what it ensures is the law.
-ghost use Rattle.std.specs.Prelude.{◌≡◌, ℕ, ◌+◌, ◌<◌, List, [], length, Some, slice_get};
 ghost use Rattle.toml.specs.Data.{Members};
 ghost use Rattle.jo_prog.specs.declared.labels.Labels.{Labels};
 ghost use Rattle.jo_prog.specs.declared.program.Program.{Program};
 ghost use Rattle.jo_prog.specs.PlainCode.{IsWellLabelled};
 ghost use Rattle.policy_tree.specs.declared.written.ContextsKey.{ContextsKey};
 ghost use Rattle.jo_policy.specs.Policies.{IsPolicy};
-ghost use Rattle.jo_policy.specs.Schedules.{picked, repeated};
-
-/// A run has as many numbers as steps. They begin with those of the schedule, and come again behind its end; those of an empty
-/// schedule are zeros.
-pub fn schedules_repeat()
-    ensures steps { (schedule : List ℕ) (steps : ℕ) → length (repeated schedule steps) ≡ steps }
-    ensures begins { (schedule : List ℕ) (step : ℕ) → step < length schedule → slice_get schedule step ≡ Some (picked schedule step) }
-    ensures again { (schedule : List ℕ) (step : ℕ) → picked schedule (step + length schedule) ≡ picked schedule step }
-    ensures zeros { (step : ℕ) → picked [] step ≡ 0 }
-{}
 
 /// A policy without a fault labels its program well.
 pub fn policies_label_well()

@@ -1,5 +1,5 @@
-//! Policies and run files of one small program.
-use crate::{LevelFault, PolicyFault, RunFileFault, read_run, whole};
+//! Policies of one small program.
+use crate::{LevelFault, Policy, PolicyFault, read_policy};
 use hierarchy::{Hierarchy, has_its_parents};
 use jo_ids::{Id, List, Memory};
 use jo_prog::lists::add;
@@ -209,7 +209,7 @@ fn joined(alloc: Global, head: &str, tables: &str) -> Result<Vec<u8>, Memory> {
 }
 
 /// What a policy's text gives to a program.
-fn read(alloc: Global, program: &Program, text: &[u8]) -> Result<whole::Policy, PolicyFault> {
+fn read(alloc: Global, program: &Program, text: &[u8]) -> Result<Policy, PolicyFault> {
     if program.methods.as_slice().len() > 100 {
         return Err(PolicyFault::Memory);
     }
@@ -222,7 +222,7 @@ fn read(alloc: Global, program: &Program, text: &[u8]) -> Result<whole::Policy, 
     let Ok(hierarchy) = Hierarchy::build(alloc, program) else {
         return Err(PolicyFault::Memory);
     };
-    whole::read_policy(alloc, text, program, &hierarchy)
+    read_policy(alloc, text, program, &hierarchy)
 }
 
 /// Whether a policy's text is told this fault with this text, 0 where it has none.
@@ -464,60 +464,5 @@ fn threads_may_start_without_releases(rt: HostRuntime) -> Result<(), Fail> {
     let program = with_call(alloc, "()I", 182, 4, "start")?;
     let text = "levels = ['low']\nentry = 'A.main()V'\n[sources]\n'A.r()I' = 'low'\n";
     assert!(rt; is_told_of(alloc, &program, text.as_bytes(), 0, "")?);
-    Ok(())
-}
-
-/// What a run file is told: the number of its fault, 0 where it has none, and how long its inputs and its schedule are.
-fn planned(alloc: Global, text: &str) -> Result<(u32, usize, usize), Memory> {
-    let program = program(alloc)?;
-    let policy_text = joined(alloc, HEAD, TABLES)?;
-    let policy = match read(alloc, &program, policy_text.as_slice()) {
-        Ok(policy) => policy,
-        Err(_) => return Err(Memory),
-    };
-    if program.methods.as_slice().len() > 100 {
-        return Err(Memory);
-    }
-    match read_run(alloc, text.as_bytes(), &program, &policy) {
-        Ok(plan) => Ok((
-            0,
-            plan.inputs.as_slice().len(),
-            plan.schedule.as_slice().len(),
-        )),
-        Err(RunFileFault::NotToml) => Ok((1, 0, 0)),
-        Err(RunFileFault::Key) => Ok((2, 0, 0)),
-        Err(RunFileFault::Source) => Ok((3, 0, 0)),
-        Err(RunFileFault::Range) => Ok((4, 0, 0)),
-        Err(RunFileFault::Memory) => Err(Memory),
-    }
-}
-
-#[test]
-fn run_files_are_read(rt: HostRuntime) -> Result<(), Fail> {
-    let alloc = rt.alloc();
-    assert_eq!(rt;
-        planned(
-            alloc,
-            "steps = 10000000\nschedule = [0, 2147483647]\n[inputs]\n'A.get()I' = [-2147483648]\n"
-        )?,
-        (0, 1, 2)
-    );
-    assert_eq!(rt; planned(alloc, "steps = 1\nsteps = 2\n")?, (1, 0, 0));
-    assert_eq!(rt; planned(alloc, "steps = 9223372036854775808\n")?, (1, 0, 0));
-    assert_eq!(rt; planned(alloc, "steps = -1\ninputs = 1\n")?, (2, 0, 0));
-    assert_eq!(rt; planned(alloc, "schedule = [-1]\n")?, (2, 0, 0));
-    assert_eq!(rt;
-        planned(alloc, "steps = -1\n[inputs]\n'A.put(I)V' = []\n")?,
-        (3, 0, 0)
-    );
-    assert_eq!(rt;
-        planned(alloc, "steps = 0\n[inputs]\n'A.set()I' = [2147483648]\n")?,
-        (3, 0, 0)
-    );
-    assert_eq!(rt; planned(alloc, "steps = 10000001\n")?, (4, 0, 0));
-    assert_eq!(rt;
-        planned(alloc, "steps = 0\n[inputs]\n'A.get()I' = [2147483648]\n")?,
-        (4, 0, 0)
-    );
     Ok(())
 }

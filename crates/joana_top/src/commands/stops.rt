@@ -11,8 +11,7 @@ ghost use Rattle.joana_top.specs.Stops.{link_kind, link_stop, policy_kind, carri
 use class_pool::ClassFile;
 use hierarchy::Hierarchy;
 use jo_ids::MethodId;
-use jo_policy::whole::{Policy, read_policy};
-use jo_policy::{LevelFault, PolicyFault};
+use jo_policy::{LevelFault, Policy, PolicyFault, read_policy};
 use jo_prog::program::Program;
 use jo_prog::spelling::push_method;
 use jo_text::{Name, push_escaped};

@@ -1,5 +1,5 @@
 use Rattle.std.proofs.Common.{◌≡◌, ◌++◌, drop}
-use Rattle.jo_policy.proofs.run_file.copy_values.Given as goal
+use Rattle.run_plans.proofs.run_file.copy_values.Given as goal
 
 -- the values before this one have been copied
 abbrev pub invariant-loop-value : goal.invariant-loop-value

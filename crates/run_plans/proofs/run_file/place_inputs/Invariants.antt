@@ -1,7 +1,7 @@
 use Rattle.std.proofs.Common.{◌≡◌, drop}
 use Rattle.policy_tree.specs.Outcomes.{behind}
-use Rattle.jo_policy.specs.RunFiles.{placed_inputs}
-use Rattle.jo_policy.proofs.run_file.place_inputs.Given as goal
+use Rattle.run_plans.specs.RunFiles.{placed_inputs}
+use Rattle.run_plans.proofs.run_file.place_inputs.Given as goal
 
 -- the inputs before this one have their sources
 abbrev pub invariant-loop-input : goal.invariant-loop-input

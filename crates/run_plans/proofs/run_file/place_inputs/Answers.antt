@@ -1,5 +1,5 @@
-use Rattle.jo_policy.proofs.RunAnswers.{next_input}
-use Rattle.jo_policy.proofs.run_file.place_inputs.Goals as goal
+use Rattle.run_plans.proofs.RunAnswers.{next_input}
+use Rattle.run_plans.proofs.run_file.place_inputs.Goals as goal
 
 pub loop-input-preserved : goal.loop-input-preserved
 loop-input-preserved c =

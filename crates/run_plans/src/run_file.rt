@@ -5,11 +5,10 @@ ghost use Rattle.toml.specs.View.{table_view};
 ghost use Rattle.policy_tree.specs.RunTree.{RunGives};
 ghost use Rattle.jo_policy.specs.FileMethods.{IsIndexOf};
 ghost use Rattle.jo_policy.specs.Policies.{IsTree};
-ghost use Rattle.jo_policy.specs.RunFiles.{or_source, or_range, is_source as source_label, source_named, placed_input, placed_inputs, within, inputs_within as all_within, plan_by, plan_of, OrNoMemory, IsRunFault};
+ghost use Rattle.run_plans.specs.RunFiles.{or_source, or_range, is_source as source_label, source_named, placed_input, placed_inputs, within, inputs_within as all_within, plan_by, plan_of, OrNoMemory, IsRunFault};
 
-use crate::spellings::{MethodIndex, find_method, index_methods};
-use crate::whole::Policy;
 use jo_ids::{Id, List, Memory, MethodId};
+use jo_policy::{MethodIndex, Policy, find_method, index_methods};
 use jo_prog::labels::Label;
 use jo_prog::lists::add;
 use jo_prog::program::Program;
@@ -27,7 +26,7 @@ pub struct RunPlan {
 }
 
 impl RunPlan {
-    ghost use Rattle.jo_policy.specs.Schedules.{picked};
+    ghost use Rattle.run_plans.specs.Schedules.{picked};
 
     /// The number of the schedule at a step, where steps count from 0.
     pub fn picked(&self, step: u32) -> u32

@@ -3,7 +3,7 @@ use Rattle.std.proofs.Common.{◌≡◌, ℕ, ◌+◌, ◌<◌, List, [], ◌∷
 use Rattle.std.proofs.lemmas.List.{drop_more}
 use Rattle.policy_tree.specs.Outcomes.{◌>>=◌, behind}
 use Rattle.policy_tree.specs.declared.runs.WrittenInput.{WrittenInput}
-use Rattle.jo_policy.specs.declared.run_file.PlacedInput.{PlacedInput}
+use Rattle.run_plans.specs.declared.run_file.PlacedInput.{PlacedInput}
 use Rattle.std.specs.Prelude.{Ok, Err, IfErr}
 use Rattle.toml.specs.Data.{Members}
 use Rattle.jo_prog.specs.declared.labels.Labels.{Labels}
@@ -11,9 +11,9 @@ use Rattle.jo_prog.specs.declared.program.Program.{Program}
 use Rattle.policy_tree.specs.declared.runs.RunFileFault.{RunFileFault}
 use Rattle.policy_tree.specs.declared.runs.RunFileFault.TheVariants.{Memory}
 use Rattle.policy_tree.specs.RunTree.{RunRead, RunFails, RunGives}
-use Rattle.jo_policy.specs.declared.run_file.RunPlan.{RunPlan}
+use Rattle.run_plans.specs.declared.run_file.RunPlan.{RunPlan}
 use Rattle.jo_policy.specs.Policies.{IsTree}
-use Rattle.jo_policy.specs.RunFiles.{placed_input, placed_inputs, plan_of, IsRunFault, of_tree, OrNoMemory}
+use Rattle.run_plans.specs.RunFiles.{placed_input, placed_inputs, plan_of, IsRunFault, of_tree, OrNoMemory}
 
 run_fails_to : {Y : Type 0} (read : RunRead Y) (F : RunFileFault → Type 0) → ((f : RunFileFault) → read ≡ Err f → F f) → (fault : RunFileFault) → RunFails fault read → OrNoMemory F fault
 run_fails_to read F go Memory h = tt

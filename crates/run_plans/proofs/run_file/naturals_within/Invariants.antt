@@ -1,7 +1,7 @@
 use Rattle.std.proofs.Common.{◌≡◌, drop}
 use Rattle.policy_tree.specs.Outcomes.{behind}
-use Rattle.jo_policy.specs.RunFiles.{within}
-use Rattle.jo_policy.proofs.run_file.ints_within.Given as goal
+use Rattle.run_plans.specs.RunFiles.{within}
+use Rattle.run_plans.proofs.run_file.naturals_within.Given as goal
 
 -- the numbers before this one are in their range
 abbrev pub invariant-loop-value : goal.invariant-loop-value

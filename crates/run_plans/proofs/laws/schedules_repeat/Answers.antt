@@ -3,8 +3,8 @@ use Rattle.std.specs.Prelude.{slice_get, slice_index_or}
 use Rattle.std.proofs.Math.Nat.{add-mod_right, mod-eq_of_lt}
 use Rattle.std.proofs.lemmas.List.{length-map}
 use Rattle.jo_prog.specs.Numbers.{count_from}
-use Rattle.jo_policy.specs.Schedules.{picked}
-use Rattle.jo_policy.proofs.laws.schedules_repeat.Goals as goal
+use Rattle.run_plans.specs.Schedules.{picked}
+use Rattle.run_plans.proofs.laws.schedules_repeat.Goals as goal
 
 count_length : (first n : ℕ) → length (count_from first n) ≡ n
 count_length first zero = refl

@@ -1,7 +1,7 @@
 use Rattle.std.proofs.Common.{◌≡◌, drop}
 use Rattle.policy_tree.specs.Outcomes.{behind}
-use Rattle.jo_policy.specs.RunFiles.{inputs_within}
-use Rattle.jo_policy.proofs.run_file.inputs_within.Given as goal
+use Rattle.run_plans.specs.RunFiles.{inputs_within}
+use Rattle.run_plans.proofs.run_file.inputs_within.Given as goal
 
 -- the inputs before this one are in their ranges
 abbrev pub invariant-loop-input : goal.invariant-loop-input

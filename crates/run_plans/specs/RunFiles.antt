@@ -15,8 +15,8 @@ use Rattle.policy_tree.specs.declared.runs.WrittenInput.{WrittenInput}
 use Rattle.policy_tree.specs.declared.runs.WrittenRun.{WrittenRun}
 use Rattle.policy_tree.specs.Outcomes.{◌>>=◌}
 use Rattle.policy_tree.specs.RunTree.{RunRead, written_run}
-use Rattle.jo_policy.specs.declared.run_file.PlacedInput.{PlacedInput}
-use Rattle.jo_policy.specs.declared.run_file.RunPlan.{RunPlan}
+use Rattle.run_plans.specs.declared.run_file.PlacedInput.{PlacedInput}
+use Rattle.run_plans.specs.declared.run_file.RunPlan.{RunPlan}
 use Rattle.jo_policy.specs.FileMethods.{method_named}
 use Rattle.jo_policy.specs.Policies.{IsTree}
 

@@ -1,6 +1,6 @@
 use Rattle.toml.specs.View.{table_view}
-use Rattle.jo_policy.proofs.RunAnswers.{run_fault}
-use Rattle.jo_policy.proofs.run_file.read_run.Goals as goal
+use Rattle.run_plans.proofs.RunAnswers.{run_fault}
+use Rattle.run_plans.proofs.run_file.read_run.Goals as goal
 
 pub returns-in-Ok-clause-fault : goal.returns-in-Ok-clause-fault
 returns-in-Ok-clause-fault c =
