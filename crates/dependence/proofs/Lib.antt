@@ -4,3 +4,4 @@ pub mod FactLemmas
 pub mod FlowLemmas
 pub mod ListedLemmas
 pub mod OpcodeLemmas
+pub mod RowLemmas

@@ -7,13 +7,15 @@ use Rattle.contexts.specs.Policies.{ContextPolicy}
 use Rattle.dep_nodes.specs.declared.kinds.NodeKind.{NodeKind}
 use Rattle.dep_nodes.specs.declared.kinds.NodeKind.TheVariants.{Call, RetVal, Arg}
 use Rattle.dep_nodes.specs.declared.kinds.EdgeKind.{EdgeKind}
+use Rattle.dep_nodes.specs.declared.accesses.Access.{Access}
 use Rattle.dep_nodes.specs.declared.accesses.ObjName.{ObjName}
 use Rattle.dep_nodes.specs.declared.accesses.Cell.{Cell}
 use Rattle.dep_nodes.specs.declared.accesses.Cell.TheVariants.{Field as FieldCell, Elements as ElementsCell, Static as StaticCell, Cursor, Started}
 use Rattle.dep_nodes.specs.declared.dependence_graph.GraphNode.{GraphNode}
 use Rattle.dep_nodes.specs.Nodes.{node, node_named, sites_of}
 use Rattle.dep_nodes.specs.OneForm.{plain_cell}
-use Rattle.dep_nodes.specs.GrowingGraphs.{HasAccess}
+use Rattle.dep_nodes.specs.OnceLists.{IsOnceEach}
+use Rattle.dep_nodes.specs.GrowingGraphs.{HasIdsInside, HasAccess}
 use Rattle.dependence.specs.declared.facts.InstKey.{InstKey}
 use Rattle.dependence.specs.declared.facts.FactCell.TheVariants.{Field as FieldOf, Elements, Static}
 use Rattle.dependence.specs.declared.facts.Fact.{Fact}
@@ -52,12 +54,15 @@ module _ (program : Program) (labels : Labels) (policy : ContextPolicy) (facts :
     pub each_node : (i : InstKey (List ℕ)) (n : NodeKind) → IsGraphNode program labels policy facts H i n → (k : ℕ) × IsNamed rows k i n
     pub only_nodes : (k : ℕ) (i : InstKey (List ℕ)) (n : NodeKind) → IsNamed rows k i n → IsGraphNode program labels policy facts H i n
     pub once : (j k : ℕ) (i : InstKey (List ℕ)) (n : NodeKind) → IsNamed rows j i n → IsNamed rows k i n → j ≡ k
+    -- every list has each item once, with numbers of nodes alone and cells in the one form of their names, so that its length counts
+    pub inside : HasIdsInside rows
+    pub lists_once : (k : ℕ) (row : GraphNode) → slice_get rows k ≡ Some row → IsOnceEach row.edges × IsOnceEach row.flows × IsOnceEach row.accesses
+    pub plain : (k : ℕ) (access : Access) → HasAccess rows k access → plain_cell access.cell ≡ access.cell
     pub resolved : (k : ℕ) (row : GraphNode) → slice_get rows k ≡ Some row → row.name.resolved ≡ resolved_for program row.name.method row.name.kind
     pub edges : (k l : ℕ) (row : GraphNode) (i j : InstKey (List ℕ)) (a b : NodeKind) (kind : EdgeKind) → IsNamed rows k i a → IsNamed rows l j b
         → slice_get rows l ≡ Some row → Contains row.edges (k, kind) ↔ IsGraphEdge program labels policy facts H i a kind j b
     pub flows : (k l : ℕ) (row : GraphNode) (i j : InstKey (List ℕ)) (a b : NodeKind) → IsNamed rows k i a → IsNamed rows l j b
         → slice_get rows k ≡ Some row → Contains row.flows l ↔ IsGraphFlow program labels policy facts H i a j b
-    -- a cell in the one form of its names
     pub reads : (k : ℕ) (i : InstKey (List ℕ)) (n : NodeKind) (cell : Cell) → IsNamed rows k i n → plain_cell cell ≡ cell
         → HasAccess rows k (record { cell = cell; write = false }) ↔ MayRead program labels policy facts H i n (cell_named cell)
     pub writes : (k : ℕ) (i : InstKey (List ℕ)) (n : NodeKind) (cell : Cell) → IsNamed rows k i n → plain_cell cell ≡ cell

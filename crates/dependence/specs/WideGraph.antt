@@ -12,6 +12,8 @@ use Rattle.jo_insn.specs.Jumps.{targets_of}
 use Rattle.jo_prog.specs.declared.program.Program.{Program}
 use Rattle.jo_prog.specs.declared.program.Code.{Code}
 use Rattle.jo_prog.specs.declared.program.Row.{Row}
+use Rattle.jo_prog.specs.declared.program.TypeRef.{TypeRef}
+use Rattle.jo_prog.specs.declared.program.TypeRef.TheVariants.{Class as OfClass, Array as OfArray}
 use Rattle.jo_prog.specs.declared.program.Operand.{Operand}
 use Rattle.jo_prog.specs.declared.program.Operand.TheVariants.{Member}
 use Rattle.jo_prog.specs.declared.calls.Taken.{Taken}
@@ -81,9 +83,13 @@ abbrev pub resolved_by : Program → Option Operand → Option ℕ
 resolved_by program (Some (Member ref)) = resolve_method program (receiver_class ref.owner) ref.name ref.desc
 resolved_by program _ = None
 
--- and the field
+-- and the field; an array has none
 abbrev pub field_by : Program → Option Operand → Option ℕ
-field_by program (Some (Member ref)) = resolve_field program (receiver_class ref.owner) ref.name ref.desc
+field_by program (Some (Member ref)) = of_owner ref.owner
+  where
+    of_owner : TypeRef → Option ℕ
+    of_owner (OfClass c) = resolve_field program c ref.name ref.desc
+    of_owner (OfArray desc) = None
 field_by program _ = None
 
 -- getstatic, putstatic, getfield and putfield name a field, the calls a method

@@ -43,19 +43,22 @@ module _ (program : Program) (m : ℕ) (method : Method) (code : Code)
     (no_fields : program.fields ≡ []) (count : length (replicate {A = ℕ} (length program.methods) 0) ≡ length program.methods) where
   thread_is_typed : IsTypedThread program [] (record { frames = frame_at_start m ∷ []; pending = None; object = None })
   thread_is_typed = record {
-    frames = (record {
-      shape = record { locals = Unset ∷ []; stack = [] };
-      has_shape = record {
-        typable = record { number = m; method = method; code = code };
-        is_typable = (refl, found, has_code);
-        path = [];
-        is_path = refl;
-        arrives = refl;
-        shape_is = shape;
-      };
-      locals = one_more Unset None [] [] (unset None) no_more;
-      stack = no_more;
-    }, tt);
+    frames = (
+      record {
+        shape = record { locals = Unset ∷ []; stack = [] };
+        has_shape = record {
+          typable = record { number = m; method = method; code = code };
+          is_typable = (refl, found, has_code);
+          path = [];
+          is_path = refl;
+          arrives = refl;
+          shape_is = shape;
+        };
+        locals = one_more Unset None [] [] (unset None) no_more;
+        stack = no_more;
+      },
+      tt,
+    );
     thrown = λ a is. absurd (cc);
     started = λ a is. absurd (cc);
   }
