@@ -1,5 +1,5 @@
 -- Lists of objects and of fields.
-use Rattle.std.proofs.Common.{◌-◌, append_assoc, append-nil, ◌≡◌, ◌∙◌, sym, ap, refl, subst, ℕ, zero, suc, ◌+◌, ◌<◌, Bool, true, false, if◌then◌else◌, List, [], ◌∷◌, ◌++◌, length, get_or, map, Option, Some, None, option_map, slice_get, slice_set, arith}
+use Rattle.std.proofs.Common.{◌-◌, append_assoc, append-nil, ◌≡◌, ◌∙◌, sym, ap, refl, subst, ℕ, zero, suc, ◌<◌, Bool, true, false, List, [], ◌∷◌, ◌++◌, length, get_or, map, Option, Some, None, option_map, slice_get, slice_set, arith}
 use Rattle.std.proofs.Math.ListN.{set, replicate}
 use Rattle.std.specs.List.{flat_map, position_or_len}
 use Rattle.std.proofs.lemmas.List.{map-set}
@@ -10,7 +10,7 @@ use Rattle.jo_prog.specs.declared.program.Class.{Class}
 use Rattle.jo_prog.specs.Program.{class_at}
 use Rattle.jo_prog.specs.Values as machine
 use Rattle.jo_prog.specs.Calls.{superclass_at}
-use Rattle.jo_prog.specs.Hierarchy.{superclass_of, superclasses, most_steps}
+use Rattle.jo_prog.specs.Hierarchy.{superclass_of, superclasses}
 use Rattle.jo_prog.specs.Walks.{walk}
 use Rattle.jo_prog.specs.Machine.{HeapObject as MachineObject, State}
 use Rattle.machine.specs.Heaps.{own_contents, first_contents, with_field, on_object}

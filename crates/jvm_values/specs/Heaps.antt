@@ -1,5 +1,5 @@
 -- Objects and arrays, as the program holds them (JVM Specification SE 8, 2.4 and 2.7).
-use Rattle.std.specs.Prelude.{ℕ, zero, suc, ◌==◌, Bool, List, [], ◌∷◌, ◌++◌, map, Option, Some, None, slice_get, slice_set}
+use Rattle.std.specs.Prelude.{ℕ, zero, suc, ◌==◌, Bool, List, [], ◌++◌, map, Option, Some, None, slice_get, slice_set}
 use Rattle.jo_prog.specs.declared.program.Program.{Program}
 use Rattle.jo_prog.specs.Program.{class_at}
 use Rattle.jo_prog.specs.Calls.{superclass_at}

@@ -11,7 +11,7 @@ ghost use Rattle.machine.specs.Heaps.{first_content, own_contents, first_content
 ghost use Rattle.jvm_values.specs.Values.{value_of, info_of, info_seen};
 ghost use Rattle.jvm_values.specs.Heaps.{content_of, is_field, object_of, changed};
 
-use crate::values::{Address, Info, InfoView, Value};
+use crate::values::{Address, Info, InfoView, Length, Value};
 use jo_ids::{ClassId, FieldId, Id, Memory};
 use jo_insn::{ACC_STATIC, has_flag};
 use jo_prog::calls::superclass_at;
@@ -155,11 +155,11 @@ fn elements_of(alloc: Global, value: Value, count: usize) -> Result<Vec<Value>, 
     vec![in alloc; value; count]
 }
 
-fn array_of(alloc: Global, desc: &FieldDesc, length: u32) -> Result<HeapObject, Memory>
+fn array_of(alloc: Global, desc: &FieldDesc, length: Length) -> Result<HeapObject, Memory>
     ensures { IfOk result (λ o. (program : Program) → object_of o ≡ machine.new_object program (array desc.now length)) }
 {
     let own = copy_desc(alloc, desc)?;
-    let elements = elements_of(alloc, first_element(desc), length as usize)?;
+    let elements = elements_of(alloc, first_element(desc), length.count() as usize)?;
     Ok(HeapObject {
         info: Info::Array(own, length),
         fields: Vec::new(alloc),

@@ -7,4 +7,4 @@ mod values;
 
 pub use arithmetic::{int_op, int_test, kept_int, narrow, negated};
 pub use heap::{Heap, default_value};
-pub use values::{Address, Info, InfoView, Value};
+pub use values::{Address, Info, InfoView, Length, Value};

@@ -5,4 +5,4 @@ use Rattle.jvm_values.proofs.heap.array_of.Goals as goal
 
 pub returns : goal.returns
 returns c = λ program.
-    rw (c.in_ok-own.ensures, c.in_ok-elements.ensures, c.new.ensures.items, replicated value_of c.args.length c.first_element.result, c.first_element.ensures) refl
+    rw (c.in_ok-own.ensures, c.in_ok-elements.ensures, c.new.ensures.items, replicated value_of c.count.result c.first_element.result, c.count.ensures.is, c.first_element.ensures) refl

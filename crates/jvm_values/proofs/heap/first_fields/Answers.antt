@@ -1,5 +1,4 @@
-use Rattle.std.proofs.Common.{rules, ◌≡◌, ◌∙◌, sym, ◌+◌, ◌<◌, arith, append-nil, map, length}
-use Rattle.jvm_values.specs.Heaps.{content_of, contents_up}
+use Rattle.std.proofs.Common.{rules, ◌≡◌, ◌∙◌, sym, append-nil}
 use Rattle.jvm_values.proofs.HeapLemmas.{one_class, last_class, first_contents_up}
 use Rattle.jvm_values.proofs.heap.first_fields.Goals as goal
 
