@@ -36,7 +36,7 @@ fn is_object(base: &Base) -> bool
 
 impl Hierarchy {
     /// The first class with that name.
-    fn class_named(&self, program: &Program, name: &[u8]) -> Option<ClassId>
+    pub fn class_named(&self, program: &Program, name: &[u8]) -> Option<ClassId>
         requires { IsHierarchyOf program.now self.now }
         ensures { result ≡ Types.class_named program.now name.now }
     {
@@ -54,7 +54,7 @@ impl Hierarchy {
     }
 
     /// Whether one base is the same primitive type as the other, or a class below it.
-    fn base_fits(&self, program: &Program, a: &Base, b: &Base) -> bool
+    pub fn base_fits(&self, program: &Program, a: &Base, b: &Base) -> bool
         requires kept { IsHierarchyOf program.now self.now }
         requires short { length program.now.classes < 2 ^ 32 }
         ensures { result ≡ Types.base_fits program.now a.now b.now }

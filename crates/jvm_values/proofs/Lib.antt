@@ -1,1 +1,2 @@
 mod Operations
+pub mod HeapLemmas

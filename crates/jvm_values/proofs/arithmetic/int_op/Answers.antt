@@ -1,9 +1,9 @@
-use Rattle.std.proofs.Common.{rules, ◌≡◌, ◌∙◌, sym, ap, refl, true, false, Some, w32, ℤ, pos, FitsSigned, to_z, of_z}
+use Rattle.std.proofs.Common.{rules, ◌≡◌, ◌∙◌, sym, ap, true, false, Some, w32, pos, FitsSigned}
 use Rattle.std.proofs.lemmas.Int.{to_z-of_z}
 use Rattle.std.specs.Ordering.{int_eq}
-use Rattle.machine.specs.Arithmetic.{divides, divided, whole_op, int_op}
+use Rattle.machine.specs.Arithmetic.{divides}
 use Rattle.jvm_values.proofs.Operations.{by_division, by_whole}
-use Rattle.jvm_values.proofs.int_op.Goals as goal
+use Rattle.jvm_values.proofs.arithmetic.int_op.Goals as goal
 
 pub returns-then-divides : goal.returns-then-divides
 returns-then-divides c =
