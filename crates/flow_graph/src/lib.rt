@@ -6,4 +6,6 @@ mod insns;
 mod node_places;
 mod spots;
 mod steps;
+#[cfg(test)]
+mod tests;
 pub mod wide;
