@@ -5,11 +5,11 @@ use Rattle.jo_prog.specs.declared.program.Program.{Program}
 use Rattle.jo_prog.specs.declared.typed.TypeFault.{TypeFault}
 use Rattle.jo_prog.specs.TypingPaths.{Typable, effect_at}
 use Rattle.jvm_typing.specs.declared.facts.Fact.{Fact}
-use Rattle.jvm_typing.specs.Adds.{Adds, From, FromBelow}
-use Rattle.jvm_typing.specs.Kinds.{kind_in}
+use Rattle.typing_heights.specs.Adds.{Adds, From, FromBelow}
+use Rattle.typing_effects.specs.Kinds.{kind_in}
 use Rattle.jvm_typing.specs.KindFaults.{place_fails, is_wrong, kind_fault, FailsBy, WrongAt, IsKindFault}
-use Rattle.jvm_typing.specs.Searches.{height_at}
-use Rattle.jvm_typing.proofs.AddsLemmas.{adds_none, adds_alike, adds_more}
+use Rattle.typing_heights.specs.Searches.{height_at}
+use Rattle.typing_heights.proofs.AddsLemmas.{adds_none, adds_alike, adds_more}
 
 module _ (program : Program) (t : Typable) where
   pub not_failing : (S : TypeFault → Type 0) (fact : Fact) → place_fails program t.code.max_locals (effect_at program t fact.pc) fact.place (kind_in fact.kind) ≡ false → Adds S S (FailsBy program t fact)

@@ -7,14 +7,14 @@ use Rattle.jo_prog.specs.declared.typed.TypeCode.TheVariants.{Underflow, Overflo
 use Rattle.jo_prog.specs.declared.typed.TypeFault.{TypeFault}
 use Rattle.jo_prog.specs.TypingPaths.{Typable, Step, IsTypable, TypingPath, arrives_at, height_of, MeetsAtEnd, MeetsFault, IsLeastFault, IsTypedMethod, HasHeightAt, IsTypeFaultOf, fault_claim, number_of}
 use Rattle.jvm_typing.specs.declared.facts.Fact.{Fact}
-use Rattle.jvm_typing.specs.Adds.{Adds}
-use Rattle.jvm_typing.specs.Searches.{height_at, AreHeights}
-use Rattle.jvm_typing.specs.Moves.{IsHeightFault, other_height}
-use Rattle.jvm_typing.specs.FirstFaults.{IsFirstOf}
+use Rattle.typing_heights.specs.Adds.{Adds}
+use Rattle.typing_heights.specs.Searches.{height_at, AreHeights}
+use Rattle.typing_heights.specs.Moves.{IsHeightFault, other_height}
+use Rattle.typing_heights.specs.FirstFaults.{IsFirstOf}
 use Rattle.jvm_typing.specs.KindPasses.{items_of, AreKinds}
 use Rattle.jvm_typing.specs.KindFaults.{kind_fault, IsKindFault, IsFirstAnswer, IsTypeAnswer}
-use Rattle.jvm_typing.proofs.ArrivalLemmas.{Meets, found_met, FoundBy, met_found, other_found}
-use Rattle.jvm_typing.proofs.AnswerLemmas.{meets_fault, fault_meets}
+use Rattle.typing_heights.proofs.ArrivalLemmas.{Meets, found_met, FoundBy, met_found, other_found}
+use Rattle.typing_heights.proofs.AnswerLemmas.{meets_fault, fault_meets}
 use Rattle.jvm_typing.proofs.KindFaultLemmas.{kind_found_met, kind_met_found}
 
 below_eight : (code : TypeCode) → number_of code < 8

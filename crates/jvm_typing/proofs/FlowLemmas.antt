@@ -9,12 +9,12 @@ use Rattle.jo_prog.specs.TypingPaths.{Typable, Step, height_of, shape_of, effect
 use Rattle.jo_prog.specs.declared.program.Row.{Row}
 use Rattle.jo_prog.specs.Typing.{Kind}
 use Rattle.jo_prog.specs.Shapes.{Effect}
-use Rattle.jvm_typing.specs.declared.moves.Move.{Move}
-use Rattle.jvm_typing.specs.Searches.{height_at, AreHeights}
-use Rattle.jvm_typing.specs.Moves.{IsMove, other_height}
+use Rattle.typing_heights.specs.declared.moves.Move.{Move}
+use Rattle.typing_heights.specs.Searches.{height_at, AreHeights}
+use Rattle.typing_heights.specs.Moves.{IsMove, other_height}
 use Rattle.jvm_typing.specs.KindPasses.{Item, Holds, Brings, Frame, frame_of, row_at, row_source, step_source, ClosedBelow, ClosedAt, ClosedFor, Grows, Spreads, Starts}
-use Rattle.jvm_typing.proofs.PathSteps.{begins}
-use Rattle.jvm_typing.proofs.ArrivalLemmas.{leaves_with}
+use Rattle.typing_heights.proofs.PathSteps.{begins}
+use Rattle.typing_heights.proofs.ArrivalLemmas.{leaves_with}
 use Rattle.jvm_typing.proofs.GrowLemmas.{or_both}
 use Rattle.jvm_typing.proofs.KindLemmas.{brings_holds, some_same}
 

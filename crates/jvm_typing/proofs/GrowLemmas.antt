@@ -6,11 +6,11 @@ use Rattle.jo_prog.specs.declared.program.Program.{Program}
 use Rattle.jo_prog.specs.Typing.{Kind}
 use Rattle.jo_prog.specs.Shapes.{Change, changed}
 use Rattle.jvm_typing.specs.declared.facts.Fact.{Fact}
-use Rattle.jvm_typing.specs.declared.kinds.Kind.{Kind as KindHere}
-use Rattle.jvm_typing.specs.Adds.{Adds, From}
-use Rattle.jvm_typing.specs.Kinds.{kind_in}
+use Rattle.typing_effects.specs.declared.kinds.Kind.{Kind as KindHere}
+use Rattle.typing_heights.specs.Adds.{Adds, From}
+use Rattle.typing_effects.specs.Kinds.{kind_in}
 use Rattle.jvm_typing.specs.KindPasses.{Item, item_in, items_of, Grows, Brings, Fixed, FromPlace, Turned, HeldBy}
-use Rattle.jvm_typing.proofs.AddsLemmas.{from_none, from_more, adds_none, adds_alike, adds_pushed, adds_all}
+use Rattle.typing_heights.proofs.AddsLemmas.{from_none, from_more, adds_none, adds_alike, adds_pushed, adds_all}
 
 pub map_push : {A B : Type 0} (f : A → B) (xs : List A) (x : A) → map f (xs ++ x ∷ []) ≡ map f xs ++ f x ∷ []
 map_push f [] x = refl

@@ -11,14 +11,14 @@ use Rattle.jo_prog.specs.Typing.{Kind, Unset, Shape}
 use Rattle.jo_prog.specs.Shapes.{Need, passes, all_pass}
 use Rattle.jo_prog.specs.TypingPaths.{Typable, Step, arrives_at, height_of, shape_of, effect_at, wrong_kind, local_passes, catches_wrong, TypingPath}
 use Rattle.jvm_typing.specs.declared.facts.Fact.{Fact}
-use Rattle.jvm_typing.specs.Kinds.{kind_in}
-use Rattle.jvm_typing.specs.Searches.{height_at, AreHeights}
-use Rattle.jvm_typing.specs.Moves.{other_height}
+use Rattle.typing_effects.specs.Kinds.{kind_in}
+use Rattle.typing_heights.specs.Searches.{height_at, AreHeights}
+use Rattle.typing_heights.specs.Moves.{other_height}
 use Rattle.jvm_typing.specs.KindPasses.{flat, Item, item_in, items_of, AreKinds}
 use Rattle.jvm_typing.specs.KindFaults.{read_fails, pop_fails, place_fails, is_wrong, kind_fault, FailsAt, IsKindFault}
-use Rattle.jvm_typing.proofs.ArrivalLemmas.{Meets}
+use Rattle.typing_heights.proofs.ArrivalLemmas.{Meets}
 use Rattle.jvm_typing.proofs.FlowLemmas.{is_there}
-use Rattle.jvm_typing.proofs.MoveLemmas.{has_below}
+use Rattle.typing_heights.proofs.MoveLemmas.{has_below}
 use Rattle.jvm_typing.proofs.GrowLemmas.{contains_map, from_map}
 use Rattle.jvm_typing.proofs.KindLemmas.{locals_long, some_same}
 

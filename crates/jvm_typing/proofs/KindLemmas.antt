@@ -10,13 +10,13 @@ use Rattle.jo_prog.specs.MethodTypes.{method_desc_in}
 use Rattle.jo_prog.specs.Typing.{Kind, Unset, Shape}
 use Rattle.jo_prog.specs.Shapes.{changed, Origin, Effect, written, after, kind_from}
 use Rattle.jo_prog.specs.TypingPaths.{Typable, Step, arrives_at, height_of, shape_of, stepped, row_taken, effect_at, TakesStep, TypingPath}
-use Rattle.jvm_typing.specs.declared.moves.Move.{Move}
-use Rattle.jvm_typing.specs.Searches.{height_at, height_behind, AreHeights}
-use Rattle.jvm_typing.specs.Moves.{LeavesFrom, IsMove}
+use Rattle.typing_heights.specs.declared.moves.Move.{Move}
+use Rattle.typing_heights.specs.Searches.{height_at, height_behind, AreHeights}
+use Rattle.typing_heights.specs.Moves.{LeavesFrom, IsMove}
 use Rattle.jvm_typing.specs.KindPasses.{flat, Item, Holds, Source, Fixed, FromPlace, Gives, Brings, row_at, row_source, step_source, frame_of, ClosedFor, Starts, AreKinds}
-use Rattle.jvm_typing.proofs.PathSteps.{back}
-use Rattle.jvm_typing.proofs.SearchPaths.{height_stepped}
-use Rattle.jvm_typing.proofs.ArrivalLemmas.{moves_on, goes_on_at, has_its_height, is_move, leaves_with}
+use Rattle.typing_heights.proofs.PathSteps.{back}
+use Rattle.typing_heights.proofs.SearchPaths.{height_stepped}
+use Rattle.typing_heights.proofs.ArrivalLemmas.{moves_on, goes_on_at, has_its_height, is_move, leaves_with}
 use Rattle.jvm_typing.proofs.GrowLemmas.{item_is}
 use Rattle.jvm_typing.proofs.ShapeLemmas.{source_kind, IsThere, Comes, plain_comes, handler_comes}
 

@@ -7,10 +7,10 @@ use Rattle.std.proofs.lemmas.List.Elements.{Contains-append_left, Contains-push,
 use Rattle.std.proofs.lemmas.Option.{slice_get_within, get_or_from_slice_get}
 use Rattle.jo_prog.specs.Typing.{Kind}
 use Rattle.jvm_typing.specs.declared.facts.Fact.{Fact}
-use Rattle.jvm_typing.specs.Adds.{Adds, From}
+use Rattle.typing_heights.specs.Adds.{Adds, From}
 use Rattle.jvm_typing.specs.KindPasses.{Item, items_of, HeldBy}
 use Rattle.jvm_typing.specs.Slots.{slot_of, numbers_in, AreListed, ListsPlace, HeldAt}
-use Rattle.jvm_typing.proofs.AddsLemmas.{adds_none, adds_alike}
+use Rattle.typing_heights.proofs.AddsLemmas.{adds_none, adds_alike}
 use Rattle.jvm_typing.proofs.GrowLemmas.{kinds_exact}
 
 pub contains_at : {A : Type 0} (xs : List A) (n : ℕ) (x : A) → slice_get xs n ≡ Some x → Contains xs x

@@ -7,11 +7,11 @@ use Rattle.jo_prog.specs.InsnTyping.{shape_at_start}
 use Rattle.jo_prog.specs.Typing.{Kind}
 use Rattle.jo_prog.specs.TypingPaths.{Typable}
 use Rattle.jvm_typing.specs.declared.facts.Fact.{Fact}
-use Rattle.jvm_typing.specs.declared.kinds.Kind.{Kind as KindHere}
-use Rattle.jvm_typing.specs.Adds.{Adds, FromBelow}
-use Rattle.jvm_typing.specs.Kinds.{kind_in}
+use Rattle.typing_effects.specs.declared.kinds.Kind.{Kind as KindHere}
+use Rattle.typing_heights.specs.Adds.{Adds, FromBelow}
+use Rattle.typing_effects.specs.Kinds.{kind_in}
 use Rattle.jvm_typing.specs.KindPasses.{Item, item_in, items_of, Starts, StartAt}
-use Rattle.jvm_typing.proofs.AddsLemmas.{adds_none, adds_alike, adds_pushed, adds_all}
+use Rattle.typing_heights.proofs.AddsLemmas.{adds_none, adds_alike, adds_pushed, adds_all}
 use Rattle.jvm_typing.proofs.GrowLemmas.{item_is, map_push}
 
 pub map_take : {A B : Type 0} (f : A → B) (n : ℕ) (xs : List A) → map f (take n xs) ≡ take n (map f xs)

@@ -4,7 +4,7 @@ use Rattle.std.proofs.lemmas.Bool.{cases_eq}
 use Rattle.std.proofs.lemmas.List.{length-append, get_or_append_left, get_or-append-add}
 use Rattle.jo_prog.specs.declared.program.Program.{Program}
 use Rattle.jo_prog.specs.TypingPaths.{IsTypedMethod, HasHeightAt}
-use Rattle.jvm_typing.specs.Searches.{height_at}
+use Rattle.typing_heights.specs.Searches.{height_at}
 use Rattle.jvm_typing.specs.Typings.{AreTypings}
 
 pub none_typed : (program : Program) → AreTypings program 0 []

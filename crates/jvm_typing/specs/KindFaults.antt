@@ -8,9 +8,9 @@ use Rattle.jo_prog.specs.Typing.{Kind}
 use Rattle.jo_prog.specs.Shapes.{Need, passes, Effect}
 use Rattle.jo_prog.specs.TypingPaths.{Typable, effect_at, catches_wrong, IsTypedMethod, IsLeastFault, HasHeightAt}
 use Rattle.jvm_typing.specs.declared.facts.Fact.{Fact}
-use Rattle.jvm_typing.specs.Adds.{From, FromBelow}
+use Rattle.typing_heights.specs.Adds.{From, FromBelow}
 use Rattle.jvm_typing.specs.KindPasses.{Item, item_in}
-use Rattle.jvm_typing.specs.Searches.{height_at}
+use Rattle.typing_heights.specs.Searches.{height_at}
 
 -- a local is read that has not what it is asked for
 abbrev pub read_fails : Program → Option (ℕ × Need) → ℕ → Kind → Bool

@@ -7,10 +7,10 @@ use Rattle.jo_prog.specs.Typing.{Kind, Ref, Unset, Shape}
 use Rattle.jo_prog.specs.Shapes.{Change, Same, changed, Origin, Always, OfStack, OfLocal, Effect}
 use Rattle.jo_prog.specs.TypingPaths.{Typable, Step, arrives_at, height_of, shape_of, effect_at, TypingPath}
 use Rattle.jvm_typing.specs.declared.facts.Fact.{Fact}
-use Rattle.jvm_typing.specs.declared.kinds.Kind.{Kind as KindHere}
-use Rattle.jvm_typing.specs.declared.moves.Move.{Move}
-use Rattle.jvm_typing.specs.Kinds.{kind_in}
-use Rattle.jvm_typing.specs.Searches.{height_at}
+use Rattle.typing_effects.specs.declared.kinds.Kind.{Kind as KindHere}
+use Rattle.typing_heights.specs.declared.moves.Move.{Move}
+use Rattle.typing_effects.specs.Kinds.{kind_in}
+use Rattle.typing_heights.specs.Searches.{height_at}
 
 -- the fact is of that place at that pc
 abbrev pub HeldBy : Fact → ℕ → ℕ → Kind → Type 0

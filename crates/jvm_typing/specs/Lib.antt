@@ -1,16 +1,3 @@
-pub mod Searches
-pub mod Sizes
-pub mod Subjects
-pub mod Marks
-pub mod Spots
-pub mod Spreads
-pub mod Adds
-pub mod Moves
-pub mod FirstFaults
-pub mod HeightFaults
-pub mod Kinds
-pub mod Forms
-pub mod Effects
 pub mod KindPasses
 pub mod Slots
 pub mod Sources

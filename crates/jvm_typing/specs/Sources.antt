@@ -4,7 +4,7 @@ use Rattle.jo_prog.specs.Shapes.{Origin, OfStack, Same}
 use Rattle.jvm_typing.specs.declared.sources.Source.{Source as SourceHere}
 use Rattle.jvm_typing.specs.declared.sources.Source.TheVariants.{Fixed as FixedHere, FromPlace as FromPlaceHere}
 use Rattle.jvm_typing.specs.declared.sources.Sizes.{Sizes}
-use Rattle.jvm_typing.specs.Kinds.{kind_in, change_in}
+use Rattle.typing_effects.specs.Kinds.{kind_in, change_in}
 use Rattle.jvm_typing.specs.KindPasses.{Source, Fixed, FromPlace, Frame}
 
 abbrev pub source_in : SourceHere → Source

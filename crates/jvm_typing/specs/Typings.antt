@@ -3,7 +3,7 @@ use Rattle.std.specs.Prelude.{◌≡◌, ◌↔◌, ℕ, ◌<◌, List, [], leng
 use Rattle.jo_prog.specs.declared.program.Program.{Program}
 use Rattle.jo_prog.specs.TypingPaths.{IsTypedMethod, IsTypeFaultOf, HasHeightAt}
 use Rattle.jvm_typing.specs.declared.programs.MethodFault.{MethodFault}
-use Rattle.jvm_typing.specs.Searches.{height_at}
+use Rattle.typing_heights.specs.Searches.{height_at}
 
 -- the methods below the end are typed, and these are their heights, each under its method's number
 pub record AreTypings (program : Program) (end : ℕ) (typings : List (List (Option ℕ))) : Type 0 where

@@ -2,17 +2,17 @@
 ghost use Rattle.std.specs.Prelude.{◌≡◌, ◌↔◌, true, ℕ, Contains, map, slice_get, IfOk, OnOk};
 ghost use Rattle.std.specs.Option.{option_copied};
 ghost use Rattle.jo_prog.specs.Typing.{Kind as OfKind};
-ghost use Rattle.jvm_typing.specs.Adds.{Adds};
-ghost use Rattle.jvm_typing.specs.Kinds.{kind_in};
+ghost use Rattle.typing_heights.specs.Adds.{Adds};
+ghost use Rattle.typing_effects.specs.Kinds.{kind_in};
 ghost use Rattle.jvm_typing.specs.KindPasses.{Item, items_of, Grows, HeldBy};
 ghost use Rattle.jvm_typing.specs.Slots.{HeldAt};
 
 use crate::fact_tables::FactTable;
-use crate::kinds::{Kind, copy_kind};
 use jo_ids::Memory;
 use jo_prog::program::TypeRef;
 use jo_text::{Base, FieldDesc};
 use std::alloc::Global;
+use typing_effects::kinds::{Kind, copy_kind};
 
 /// A kind that a place may hold at a pc. The locals come first, then the stack from its top.
 #[derive(Drop)]

@@ -3,30 +3,30 @@ ghost use Rattle.std.specs.Prelude.{◌≡◌, ◌||◌, ◌<◌, ◌≤◌, ◌
 ghost use Rattle.std.specs.Option.{option_copied};
 ghost use Rattle.hierarchy.specs.Hierarchies.{IsHierarchyOf};
 ghost use Rattle.jo_prog.specs.TypingPaths.{effect_at};
-ghost use Rattle.jvm_typing.specs.Adds.{From};
-ghost use Rattle.jvm_typing.specs.Effects.{effect_in};
-ghost use Rattle.jvm_typing.specs.Kinds.{change_in};
+ghost use Rattle.typing_heights.specs.Adds.{From};
+ghost use Rattle.typing_effects.specs.Effects.{effect_in};
+ghost use Rattle.typing_effects.specs.Kinds.{change_in};
 ghost use Rattle.jvm_typing.specs.KindPasses.{Item, items_of, Grows, Brings, Turned, Spreads, ClosedAt, ClosedBelow, ClosedFor, AreKinds, row_at};
-ghost use Rattle.jvm_typing.specs.Moves.{IsMove};
-ghost use Rattle.jvm_typing.specs.Searches.{height_at, AreHeights};
+ghost use Rattle.typing_heights.specs.Moves.{IsMove};
+ghost use Rattle.typing_heights.specs.Searches.{height_at, AreHeights};
 ghost use Rattle.jvm_typing.specs.Sources.{source_in};
-ghost use Rattle.jvm_typing.specs.Subjects.{program_of, typable_of, IsSubject};
-ghost use Rattle.jvm_typing.specs.declared.moves.Move.{Move};
+ghost use Rattle.typing_heights.specs.Subjects.{program_of, typable_of, IsSubject};
+ghost use Rattle.typing_heights.specs.declared.moves.Move.{Move};
 
-use crate::effects::{Effect, effect_at};
 use crate::fact_tables::FactTable;
 use crate::facts::{add_fact, kinds_at};
-use crate::faults::differs;
-use crate::kinds::{Change, Kind, changed};
-use crate::moves::Move;
-use crate::search::known_height;
 use crate::sources::{Sizes, Source, source_of};
 use crate::starts::start_facts;
-use crate::subjects::Subject;
 use hierarchy::Hierarchy;
 use jo_ids::Memory;
 use jo_prog::program::{Program, Row};
 use std::alloc::{AllocError, Global};
+use typing_effects::effects::{Effect, effect_at};
+use typing_effects::kinds::{Change, Kind, changed};
+use typing_heights::faults::differs;
+use typing_heights::moves::Move;
+use typing_heights::search::known_height;
+use typing_heights::subjects::Subject;
 
 /// How many slots a table of facts has at most.
 const MOST_SLOTS: usize = 1_048_576;

@@ -5,25 +5,25 @@ ghost use Rattle.std.specs.Option.{option_copied};
 ghost use Rattle.hierarchy.specs.Hierarchies.{IsHierarchyOf};
 ghost use Rattle.jo_prog.specs.declared.typed.TypeFault.{TypeFault};
 ghost use Rattle.jo_prog.specs.TypingPaths;
-ghost use Rattle.jvm_typing.specs.Adds.{Adds, From, FromBelow};
-ghost use Rattle.jvm_typing.specs.Effects.{need_in, reads_in, effect_in};
+ghost use Rattle.typing_heights.specs.Adds.{Adds, From, FromBelow};
+ghost use Rattle.typing_effects.specs.Effects.{need_in, reads_in, effect_in};
 ghost use Rattle.jvm_typing.specs.KindFaults.{read_fails, pop_fails, place_fails, kind_fault, is_wrong, FailsBy, WrongAt, IsKindFault};
-ghost use Rattle.jvm_typing.specs.Kinds.{kind_in};
-ghost use Rattle.jvm_typing.specs.Subjects.{program_of, typable_of, IsSubject};
+ghost use Rattle.typing_effects.specs.Kinds.{kind_in};
+ghost use Rattle.typing_heights.specs.Subjects.{program_of, typable_of, IsSubject};
 
-use crate::asks::passes;
-use crate::effects::{Access, Effect, Need, effect_at};
 use crate::facts::Fact;
-use crate::forms::Ask;
-use crate::kinds::Kind;
-use crate::search::known_height;
-use crate::spots::covers;
-use crate::subjects::Subject;
 use hierarchy::Hierarchy;
 use jo_ids::{Id, Memory};
 use jo_prog::program::{Program, Row, TypeRef};
 use jo_prog::typed::{TypeCode, TypeFault};
 use std::alloc::{AllocError, Global};
+use typing_effects::asks::passes;
+use typing_effects::effects::{Access, Effect, Need, effect_at};
+use typing_effects::forms::Ask;
+use typing_effects::kinds::Kind;
+use typing_heights::search::known_height;
+use typing_heights::spots::covers;
+use typing_heights::subjects::Subject;
 
 fn read_fails(
     program: &Program,

@@ -4,18 +4,18 @@ ghost use Rattle.std.specs.Option.{option_copied};
 ghost use Rattle.jo_prog.specs.declared.program.Program.{Program};
 ghost use Rattle.jo_prog.specs.Shapes;
 ghost use Rattle.jo_prog.specs.InsnTyping;
-ghost use Rattle.jvm_typing.specs.Forms.{push_in};
-ghost use Rattle.jvm_typing.specs.Kinds.{kind_in, change_in};
-ghost use Rattle.jvm_typing.specs.Effects.{pushes_in, writes_in, effect_in};
+ghost use Rattle.typing_effects.specs.Forms.{push_in};
+ghost use Rattle.typing_effects.specs.Kinds.{kind_in, change_in};
+ghost use Rattle.typing_effects.specs.Effects.{pushes_in, writes_in, effect_in};
 ghost use Rattle.jvm_typing.specs.KindPasses.{origin_source, written_source, pushed_source, plain_source, handler_source, row_source};
 ghost use Rattle.jvm_typing.specs.Sources.{source_in, frame_in, copies};
 
-use crate::effects::{Access, Effect, Pushes};
-use crate::forms::Push;
-use crate::kinds::{Change, Kind, copy_kind, copy_type};
 use jo_ids::{Id, Memory};
 use jo_prog::program::{Row, TypeRef};
 use std::alloc::Global;
+use typing_effects::effects::{Access, Effect, Pushes};
+use typing_effects::forms::Push;
+use typing_effects::kinds::{Change, Kind, copy_kind, copy_type};
 
 /// Where the kind of a place comes from.
 #[derive(Drop)]

@@ -5,20 +5,20 @@ ghost use Rattle.jo_prog.specs.InsnTyping;
 ghost use Rattle.jo_prog.specs.MethodTypes.{method_desc_in};
 ghost use Rattle.jo_prog.specs.Shapes;
 ghost use Rattle.jo_prog.specs.Typing;
-ghost use Rattle.jvm_typing.specs.Adds.{Adds};
-ghost use Rattle.jvm_typing.specs.Kinds.{kind_in};
+ghost use Rattle.typing_heights.specs.Adds.{Adds};
+ghost use Rattle.typing_effects.specs.Kinds.{kind_in};
 ghost use Rattle.jvm_typing.specs.KindPasses.{Item, items_of, Starts, StartAt};
-ghost use Rattle.jvm_typing.specs.Subjects.{program_of, typable_of, IsSubject};
+ghost use Rattle.typing_heights.specs.Subjects.{program_of, typable_of, IsSubject};
 
 use crate::fact_tables::FactTable;
 use crate::facts::Fact;
-use crate::kinds::{Kind, copy_kind, kind_of_type};
-use crate::subjects::Subject;
 use jo_ids::Memory;
 use jo_insn::{ACC_STATIC, has_flag};
 use jo_prog::program::{Method, Program, TypeRef};
 use jo_text::{DescFault, FieldDesc, read_method_desc};
 use std::alloc::{AllocError, Global};
+use typing_effects::kinds::{Kind, copy_kind, kind_of_type};
+use typing_heights::subjects::Subject;
 
 fn receiver_kinds(alloc: Global, method: &Method) -> Result<Vec<Kind>, Memory>
     ensures { IfOk result (λ kinds. map kind_in kinds.items ≡ InsnTyping.receiver_kinds method.now) }

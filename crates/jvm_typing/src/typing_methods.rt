@@ -3,20 +3,20 @@ ghost use Rattle.std.specs.Prelude.{◌≡◌, ◌↔◌, ◌<◌, ◌^◌, ℕ,
 ghost use Rattle.hierarchy.specs.Hierarchies.{IsHierarchyOf};
 ghost use Rattle.jo_prog.specs.TypingPaths.{IsTypedMethod, IsTypeFaultOf, HasHeightAt};
 ghost use Rattle.jvm_typing.specs.KindFaults.{IsFirstAnswer, IsTypeAnswer};
-ghost use Rattle.jvm_typing.specs.Searches.{height_at, AreHeights};
-ghost use Rattle.jvm_typing.specs.Subjects.{program_of, typable_of, IsSubject};
+ghost use Rattle.typing_heights.specs.Searches.{height_at, AreHeights};
+ghost use Rattle.typing_heights.specs.Subjects.{program_of, typable_of, IsSubject};
 
-use crate::faults::{first_of, height_faults};
 use crate::flows::kinds_of;
 use crate::kind_faults::add_kind_faults;
-use crate::moves::moves_of;
-use crate::search::find_heights;
-use crate::subjects::Subject;
 use hierarchy::Hierarchy;
 use jo_ids::{Memory, MethodId};
 use jo_prog::program::{Program, method_at};
 use jo_prog::typed::{TypeFault, Typed};
 use std::alloc::Global;
+use typing_heights::faults::{first_of, height_faults};
+use typing_heights::moves::moves_of;
+use typing_heights::search::find_heights;
+use typing_heights::subjects::Subject;
 
 /// The first fault of the method, of heights or of kinds.
 fn first_fault(

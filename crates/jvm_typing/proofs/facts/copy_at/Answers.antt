@@ -1,6 +1,6 @@
 use Rattle.std.proofs.Common.{rules, ◌≡◌, Some, map, Contains}
 use Rattle.std.specs.Prelude.{slice_get}
-use Rattle.jvm_typing.specs.Kinds.{kind_in}
+use Rattle.typing_effects.specs.Kinds.{kind_in}
 use Rattle.jvm_typing.proofs.SlotLemmas.{held_here}
 use Rattle.jvm_typing.proofs.facts.copy_at.Goals as goal
 

@@ -1,11 +1,11 @@
 use Rattle.std.proofs.Common.{[], List, map, Contains, get_or, sym, subst}
 use Rattle.jo_prog.specs.Typing.{Kind}
 use Rattle.jvm_typing.specs.declared.facts.Fact.{Fact}
-use Rattle.jvm_typing.specs.declared.kinds.Kind.{Kind as KindHere}
-use Rattle.jvm_typing.specs.Adds.{Adds, From}
-use Rattle.jvm_typing.specs.Kinds.{kind_in}
+use Rattle.typing_effects.specs.declared.kinds.Kind.{Kind as KindHere}
+use Rattle.typing_heights.specs.Adds.{Adds, From}
+use Rattle.typing_effects.specs.Kinds.{kind_in}
 use Rattle.jvm_typing.specs.Slots.{HeldAt}
-use Rattle.jvm_typing.proofs.AddsLemmas.{over_none, over_more, over_all}
+use Rattle.typing_heights.proofs.AddsLemmas.{over_none, over_more, over_all}
 use Rattle.jvm_typing.proofs.SlotLemmas.{place_exact}
 use Rattle.jvm_typing.proofs.facts.kinds_at.Goals as goal
 

@@ -1,7 +1,7 @@
 use Rattle.std.proofs.Common.{[], take, map, Contains}
 use Rattle.jo_prog.specs.Typing.{Kind}
-use Rattle.jvm_typing.specs.Adds.{Adds, From}
-use Rattle.jvm_typing.specs.Kinds.{kind_in}
+use Rattle.typing_heights.specs.Adds.{Adds, From}
+use Rattle.typing_effects.specs.Kinds.{kind_in}
 use Rattle.jvm_typing.specs.Slots.{HeldAt}
 use Rattle.jvm_typing.proofs.facts.kinds_at.Given as goal
 

@@ -1,9 +1,9 @@
 use Rattle.std.proofs.Common.{rules, ◌≡◌, List, sym, subst}
-use Rattle.jvm_typing.specs.declared.kinds.Kind.{Kind as KindHere}
+use Rattle.typing_effects.specs.declared.kinds.Kind.{Kind as KindHere}
 use Rattle.jvm_typing.specs.declared.sources.Source.{Source as SourceHere}
 use Rattle.jvm_typing.specs.declared.sources.Source.TheVariants.{Fixed, FromPlace}
-use Rattle.jvm_typing.specs.Adds.{From}
-use Rattle.jvm_typing.specs.Kinds.{kind_in, change_in}
+use Rattle.typing_heights.specs.Adds.{From}
+use Rattle.typing_effects.specs.Kinds.{kind_in, change_in}
 use Rattle.jvm_typing.specs.KindPasses.{items_of, Grows, Brings, Turned}
 use Rattle.jvm_typing.specs.Sources.{source_in}
 use Rattle.jvm_typing.proofs.GrowLemmas.{brings_fixed, brings_from}

@@ -1,6 +1,6 @@
 use Rattle.std.proofs.Common.{◌+◌, Bool, take, sym, subst}
-use Rattle.jvm_typing.specs.Adds.{From}
-use Rattle.jvm_typing.specs.Kinds.{change_in}
+use Rattle.typing_heights.specs.Adds.{From}
+use Rattle.typing_effects.specs.Kinds.{change_in}
 use Rattle.jvm_typing.specs.KindPasses.{items_of, Grows, Turned}
 use Rattle.jvm_typing.proofs.GrowLemmas.{kinds_none, kinds_item, kinds_all}
 use Rattle.jvm_typing.proofs.flows.bring_all.Goals as goal

@@ -1,6 +1,6 @@
 use Rattle.std.proofs.Common.{take}
-use Rattle.jvm_typing.specs.Adds.{From}
-use Rattle.jvm_typing.specs.Kinds.{change_in}
+use Rattle.typing_heights.specs.Adds.{From}
+use Rattle.typing_effects.specs.Kinds.{change_in}
 use Rattle.jvm_typing.specs.KindPasses.{items_of, Grows, Turned}
 use Rattle.jvm_typing.proofs.flows.bring_all.Given as goal
 

@@ -3,9 +3,9 @@ use Rattle.std.specs.Option.{option_copied}
 use Rattle.std.proofs.lemmas.List.{length-map}
 use Rattle.jo_prog.specs.Shapes.{Effect}
 use Rattle.jvm_typing.specs.KindPasses.{items_of, Grows, Brings, Source, Spreads, ClosedBelow, row_at}
-use Rattle.jvm_typing.specs.Effects.{need_in, effect_in}
+use Rattle.typing_effects.specs.Effects.{need_in, effect_in}
 use Rattle.jvm_typing.specs.Sources.{frame_in}
-use Rattle.jvm_typing.specs.Subjects.{program_of, typable_of}
+use Rattle.typing_heights.specs.Subjects.{program_of, typable_of}
 use Rattle.jvm_typing.proofs.FlowLemmas.{spread_place, below_none, pops_there, step_source_is}
 use Rattle.jvm_typing.proofs.flows.bring_step.Goals as goal
 

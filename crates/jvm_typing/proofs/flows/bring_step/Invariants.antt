@@ -1,5 +1,5 @@
 use Rattle.jvm_typing.specs.KindPasses.{items_of, Spreads, ClosedBelow}
-use Rattle.jvm_typing.specs.Subjects.{program_of, typable_of}
+use Rattle.typing_heights.specs.Subjects.{program_of, typable_of}
 use Rattle.jvm_typing.proofs.flows.bring_step.Given as goal
 
 abbrev pub invariant-loop-place : goal.invariant-loop-place

@@ -1,8 +1,8 @@
 use Rattle.std.proofs.Common.{rules, ◌≡◌, ◌+◌, true, false, Some, None}
 use Rattle.jvm_typing.specs.KindPasses.{items_of, ClosedBelow, ClosedAt}
-use Rattle.jvm_typing.specs.Moves.{other_height}
-use Rattle.jvm_typing.specs.Searches.{height_at}
-use Rattle.jvm_typing.specs.Subjects.{program_of, typable_of}
+use Rattle.typing_heights.specs.Moves.{other_height}
+use Rattle.typing_heights.specs.Searches.{height_at}
+use Rattle.typing_heights.specs.Subjects.{program_of, typable_of}
 use Rattle.jvm_typing.proofs.FlowLemmas.{spreads_none, spreads_alike, closed_with, closed_elsewhere, closed_nowhere, not_there, is_there}
 use Rattle.jvm_typing.proofs.flows.flow.Goals as goal
 

@@ -1,6 +1,6 @@
 use Rattle.std.proofs.Common.{rules, ◌≡◌, false, List, sym, subst}
 use Rattle.jvm_typing.specs.KindPasses.{Item, items_of, ClosedFor}
-use Rattle.jvm_typing.specs.Subjects.{program_of, typable_of}
+use Rattle.typing_heights.specs.Subjects.{program_of, typable_of}
 use Rattle.jvm_typing.proofs.FlowLemmas.{starts_hold}
 use Rattle.jvm_typing.proofs.KindLemmas.{are_kinds}
 use Rattle.jvm_typing.proofs.flows.kinds_of.Goals as goal

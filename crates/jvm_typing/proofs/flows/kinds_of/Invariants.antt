@@ -1,6 +1,6 @@
 use Rattle.std.proofs.Common.{Contains}
 use Rattle.jvm_typing.specs.KindPasses.{Item, items_of, Holds, Starts}
-use Rattle.jvm_typing.specs.Subjects.{program_of, typable_of}
+use Rattle.typing_heights.specs.Subjects.{program_of, typable_of}
 use Rattle.jvm_typing.proofs.flows.kinds_of.Given as goal
 
 abbrev pub invariant-loop : goal.invariant-loop

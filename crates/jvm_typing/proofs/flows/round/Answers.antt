@@ -1,8 +1,8 @@
 use Rattle.std.proofs.Common.{◌+◌, Bool, None, take, sym, subst}
 use Rattle.std.proofs.lemmas.List.Elements.{Contains-get_or}
-use Rattle.jvm_typing.specs.declared.moves.Move.{Move}
+use Rattle.typing_heights.specs.declared.moves.Move.{Move}
 use Rattle.jvm_typing.specs.KindPasses.{items_of, Spreads, ClosedFor}
-use Rattle.jvm_typing.specs.Subjects.{program_of, typable_of}
+use Rattle.typing_heights.specs.Subjects.{program_of, typable_of}
 use Rattle.jvm_typing.proofs.FlowLemmas.{moves_none, moves_more, moves_all}
 use Rattle.jvm_typing.proofs.flows.round.Goals as goal
 

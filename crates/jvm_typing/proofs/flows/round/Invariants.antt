@@ -1,6 +1,6 @@
 use Rattle.std.proofs.Common.{take}
 use Rattle.jvm_typing.specs.KindPasses.{items_of, Spreads, ClosedFor}
-use Rattle.jvm_typing.specs.Subjects.{program_of, typable_of}
+use Rattle.typing_heights.specs.Subjects.{program_of, typable_of}
 use Rattle.jvm_typing.proofs.flows.round.Given as goal
 
 abbrev pub invariant-loop-step : goal.invariant-loop-step

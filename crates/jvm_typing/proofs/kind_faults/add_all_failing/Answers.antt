@@ -1,7 +1,7 @@
 use Rattle.std.proofs.Common.{Contains}
 use Rattle.jvm_typing.specs.KindFaults.{FailsBy}
-use Rattle.jvm_typing.specs.Subjects.{program_of, typable_of}
-use Rattle.jvm_typing.proofs.AddsLemmas.{over_none, over_item, over_all}
+use Rattle.typing_heights.specs.Subjects.{program_of, typable_of}
+use Rattle.typing_heights.proofs.AddsLemmas.{over_none, over_item, over_all}
 use Rattle.jvm_typing.proofs.kind_faults.add_all_failing.Goals as goal
 
 pub loop-fact-init : goal.loop-fact-init

@@ -1,7 +1,7 @@
 use Rattle.std.proofs.Common.{Contains, take}
-use Rattle.jvm_typing.specs.Adds.{Adds, From}
+use Rattle.typing_heights.specs.Adds.{Adds, From}
 use Rattle.jvm_typing.specs.KindFaults.{FailsBy}
-use Rattle.jvm_typing.specs.Subjects.{program_of, typable_of}
+use Rattle.typing_heights.specs.Subjects.{program_of, typable_of}
 use Rattle.jvm_typing.proofs.kind_faults.add_all_failing.Given as goal
 
 abbrev pub invariant-loop-fact : goal.invariant-loop-fact

@@ -1,8 +1,8 @@
 use Rattle.std.proofs.Common.{rules, ◌≡◌, ℕ, length, Contains, subst, arith}
-use Rattle.jvm_typing.specs.Adds.{Adds, FromBelow}
+use Rattle.typing_heights.specs.Adds.{Adds, FromBelow}
 use Rattle.jvm_typing.specs.KindFaults.{WrongAt}
-use Rattle.jvm_typing.specs.Subjects.{program_of, typable_of}
-use Rattle.jvm_typing.proofs.AddsLemmas.{below_none, below_step}
+use Rattle.typing_heights.specs.Subjects.{program_of, typable_of}
+use Rattle.typing_heights.proofs.AddsLemmas.{below_none, below_step}
 use Rattle.jvm_typing.proofs.kind_faults.add_all_wrong.Goals as goal
 
 pub loop-place-init : goal.loop-place-init

@@ -1,7 +1,7 @@
 use Rattle.std.proofs.Common.{Contains}
-use Rattle.jvm_typing.specs.Adds.{Adds, FromBelow}
+use Rattle.typing_heights.specs.Adds.{Adds, FromBelow}
 use Rattle.jvm_typing.specs.KindFaults.{WrongAt}
-use Rattle.jvm_typing.specs.Subjects.{program_of, typable_of}
+use Rattle.typing_heights.specs.Subjects.{program_of, typable_of}
 use Rattle.jvm_typing.proofs.kind_faults.add_all_wrong.Given as goal
 
 abbrev pub invariant-loop-place : goal.invariant-loop-place

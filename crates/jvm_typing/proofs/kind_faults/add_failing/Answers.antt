@@ -1,9 +1,9 @@
 use Rattle.std.proofs.Common.{rules, ◌≡◌, true, false, Contains, ◌∙◌, sym, ap}
 use Rattle.jo_prog.specs.Shapes.{Effect}
-use Rattle.jvm_typing.specs.Effects.{effect_in}
-use Rattle.jvm_typing.specs.Kinds.{kind_in}
+use Rattle.typing_effects.specs.Effects.{effect_in}
+use Rattle.typing_effects.specs.Kinds.{kind_in}
 use Rattle.jvm_typing.specs.KindFaults.{place_fails}
-use Rattle.jvm_typing.specs.Subjects.{program_of, typable_of}
+use Rattle.typing_heights.specs.Subjects.{program_of, typable_of}
 use Rattle.jvm_typing.proofs.FailLemmas.{not_failing, failing_added}
 use Rattle.jvm_typing.proofs.kind_faults.add_failing.Goals as goal
 

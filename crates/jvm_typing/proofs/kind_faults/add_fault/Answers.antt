@@ -1,6 +1,6 @@
 use Rattle.std.proofs.Common.{rules}
 use Rattle.jvm_typing.specs.KindFaults.{kind_fault}
-use Rattle.jvm_typing.proofs.AddsLemmas.{adds_pushed}
+use Rattle.typing_heights.proofs.AddsLemmas.{adds_pushed}
 use Rattle.jvm_typing.proofs.kind_faults.add_fault.Goals as goal
 
 pub returns : goal.returns

@@ -1,5 +1,5 @@
 use Rattle.std.proofs.Common.{Contains}
-use Rattle.jvm_typing.specs.Subjects.{program_of, typable_of}
+use Rattle.typing_heights.specs.Subjects.{program_of, typable_of}
 use Rattle.jvm_typing.proofs.FailLemmas.{all_added}
 use Rattle.jvm_typing.proofs.kind_faults.add_kind_faults.Goals as goal
 

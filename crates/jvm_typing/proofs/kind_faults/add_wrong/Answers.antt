@@ -1,8 +1,8 @@
 use Rattle.std.proofs.Common.{rules, ◌≡◌, true, false, None, Contains}
 use Rattle.std.specs.Prelude.{is_some}
 use Rattle.jvm_typing.specs.KindFaults.{is_wrong}
-use Rattle.jvm_typing.specs.Searches.{height_at}
-use Rattle.jvm_typing.specs.Subjects.{program_of, typable_of}
+use Rattle.typing_heights.specs.Searches.{height_at}
+use Rattle.typing_heights.specs.Subjects.{program_of, typable_of}
 use Rattle.jvm_typing.proofs.FailLemmas.{not_reached, not_wrong, wrong_added}
 use Rattle.jvm_typing.proofs.kind_faults.add_wrong.Goals as goal
 

@@ -2,7 +2,7 @@ use Rattle.std.proofs.Common.{rules, ◌≡◌, ◌↔◌, ◌+◌, ℕ, List, O
 use Rattle.jo_prog.specs.declared.typed.TypeCode.TheVariants.{Memory}
 use Rattle.jo_prog.specs.TypingPaths.{IsTypedMethod, HasHeightAt}
 use Rattle.jvm_typing.specs.declared.programs.MethodFault.{MethodFault}
-use Rattle.jvm_typing.specs.Searches.{height_at}
+use Rattle.typing_heights.specs.Searches.{height_at}
 use Rattle.jvm_typing.specs.Typings.{AreTypings, IsFirstMethodFault}
 use Rattle.jvm_typing.proofs.FirstAnswerLemmas.{memory_is_no_claim}
 use Rattle.jvm_typing.proofs.TypingsLemmas.{none_typed, typings_more}

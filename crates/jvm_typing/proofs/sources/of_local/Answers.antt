@@ -1,8 +1,8 @@
 use Rattle.std.proofs.Common.{rules, ◌≡◌, ◌∙◌, sym, ap}
 use Rattle.jo_prog.specs.Shapes.{OfStack, Reference}
-use Rattle.jvm_typing.specs.declared.effects.Access.{Access}
-use Rattle.jvm_typing.specs.declared.effects.Access.TheVariants.{Reference as ReferenceAccess}
-use Rattle.jvm_typing.specs.Effects.{writes_in}
+use Rattle.typing_effects.specs.declared.effects.Access.{Access}
+use Rattle.typing_effects.specs.declared.effects.Access.TheVariants.{Reference as ReferenceAccess}
+use Rattle.typing_effects.specs.Effects.{writes_in}
 use Rattle.jvm_typing.specs.KindPasses.{written_source}
 use Rattle.jvm_typing.specs.Sources.{frame_in}
 use Rattle.jvm_typing.proofs.SourceLemmas.{written_here}

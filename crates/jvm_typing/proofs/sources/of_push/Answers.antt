@@ -1,8 +1,8 @@
 use Rattle.std.proofs.Common.{rules, ◌≡◌, ◌∙◌, ap, sym, Some, option_map}
 use Rattle.std.specs.Prelude.{slice_get}
-use Rattle.jvm_typing.specs.declared.forms.Push.{Push}
-use Rattle.jvm_typing.specs.declared.forms.Push.TheVariants.{Element}
-use Rattle.jvm_typing.specs.Forms.{push_in}
+use Rattle.typing_effects.specs.declared.forms.Push.{Push}
+use Rattle.typing_effects.specs.declared.forms.Push.TheVariants.{Element}
+use Rattle.typing_effects.specs.Forms.{push_in}
 use Rattle.jvm_typing.specs.KindPasses.{origin_source}
 use Rattle.jvm_typing.specs.Sources.{frame_in}
 use Rattle.jvm_typing.proofs.sources.of_push.Goals as goal

@@ -1,9 +1,9 @@
 use Rattle.std.proofs.Common.{rules, ◌≡◌, ℕ, ap, Some, sym, ◌∙◌, option_map}
 use Rattle.std.specs.Prelude.{slice_get}
-use Rattle.jvm_typing.specs.declared.effects.Pushes.{Pushes}
-use Rattle.jvm_typing.specs.declared.effects.Pushes.TheVariants.{Of, Local, Copies}
-use Rattle.jvm_typing.specs.Effects.{pushes_in}
-use Rattle.jvm_typing.specs.Forms.{push_in}
+use Rattle.typing_effects.specs.declared.effects.Pushes.{Pushes}
+use Rattle.typing_effects.specs.declared.effects.Pushes.TheVariants.{Of, Local, Copies}
+use Rattle.typing_effects.specs.Effects.{pushes_in}
+use Rattle.typing_effects.specs.Forms.{push_in}
 use Rattle.jvm_typing.specs.KindPasses.{origin_source}
 use Rattle.jvm_typing.specs.Sources.{frame_in}
 use Rattle.jvm_typing.proofs.sources.of_pushed.Goals as goal

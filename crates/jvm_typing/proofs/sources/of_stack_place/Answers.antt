@@ -2,7 +2,7 @@ use Rattle.std.proofs.Common.{rules, ◌≡◌, ◌-◌, ◌∙◌, Some, None, 
 use Rattle.std.specs.Prelude.{slice_get}
 use Rattle.std.proofs.lemmas.List.{length-map}
 use Rattle.jvm_typing.specs.declared.sources.Source.{Source as SourceHere}
-use Rattle.jvm_typing.specs.Effects.{need_in, pushes_in, effect_in}
+use Rattle.typing_effects.specs.Effects.{need_in, pushes_in, effect_in}
 use Rattle.jvm_typing.specs.KindPasses.{origin_source}
 use Rattle.jvm_typing.specs.Sources.{source_in, frame_in}
 use Rattle.jvm_typing.proofs.SourceLemmas.{some_pushed, none_pushed}

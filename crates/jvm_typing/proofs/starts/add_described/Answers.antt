@@ -1,8 +1,8 @@
 use Rattle.std.proofs.Common.{rules, ◌≡◌, ◌++◌, ℕ, List, map, sym, subst, append-nil}
 use Rattle.jo_text.specs.Descriptors.{SpellsMethod, IsMethodDesc}
 use Rattle.jo_prog.specs.Shapes.{kind_of_type}
-use Rattle.jvm_typing.specs.Kinds.{kind_in}
-use Rattle.jvm_typing.proofs.DescriptorReads.{method_is, method_isnt}
+use Rattle.typing_effects.specs.Kinds.{kind_in}
+use Rattle.typing_heights.proofs.DescriptorReads.{method_is, method_isnt}
 use Rattle.jvm_typing.proofs.starts.add_described.Goals as goal
 
 pub returns-in_ok-add_params-in-Ok : goal.returns-in_ok-add_params-in-Ok

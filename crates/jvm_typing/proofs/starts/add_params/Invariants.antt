@@ -1,6 +1,6 @@
 use Rattle.std.proofs.Common.{◌≡◌, ◌++◌, map, take}
 use Rattle.jo_prog.specs.Shapes.{kind_of_type}
-use Rattle.jvm_typing.specs.Kinds.{kind_in}
+use Rattle.typing_effects.specs.Kinds.{kind_in}
 use Rattle.jvm_typing.proofs.starts.add_params.Given as goal
 
 abbrev pub invariant-loop-desc : goal.invariant-loop-desc

@@ -1,6 +1,6 @@
 use Rattle.std.proofs.Common.{◌≡◌, ◌++◌, map, replicate}
 use Rattle.jo_prog.specs.Typing.{Kind, Unset}
-use Rattle.jvm_typing.specs.Kinds.{kind_in}
+use Rattle.typing_effects.specs.Kinds.{kind_in}
 use Rattle.jvm_typing.proofs.starts.add_unset.Given as goal
 
 abbrev pub invariant-loop : goal.invariant-loop

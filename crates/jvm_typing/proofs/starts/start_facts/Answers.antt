@@ -1,11 +1,11 @@
 use Rattle.std.proofs.Common.{rules, ◌≡◌, ◌≤◌, [], List, length, map, Contains, subst, arith}
 use Rattle.std.proofs.lemmas.List.{length-map}
-use Rattle.jvm_typing.specs.declared.kinds.Kind.{Kind as KindHere}
-use Rattle.jvm_typing.specs.Adds.{Adds}
-use Rattle.jvm_typing.specs.Kinds.{kind_in}
+use Rattle.typing_effects.specs.declared.kinds.Kind.{Kind as KindHere}
+use Rattle.typing_heights.specs.Adds.{Adds}
+use Rattle.typing_effects.specs.Kinds.{kind_in}
 use Rattle.jvm_typing.specs.KindPasses.{Item, items_of, StartAt}
-use Rattle.jvm_typing.specs.Subjects.{program_of, typable_of}
-use Rattle.jvm_typing.proofs.AddsLemmas.{below_step}
+use Rattle.typing_heights.specs.Subjects.{program_of, typable_of}
+use Rattle.typing_heights.proofs.AddsLemmas.{below_step}
 use Rattle.jvm_typing.proofs.StartLemmas.{starts_exact}
 use Rattle.jvm_typing.proofs.starts.start_facts.Goals as goal
 

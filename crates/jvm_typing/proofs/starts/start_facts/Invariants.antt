@@ -1,6 +1,6 @@
 use Rattle.std.proofs.Common.{[], map, Contains}
-use Rattle.jvm_typing.specs.Adds.{Adds, FromBelow}
-use Rattle.jvm_typing.specs.Kinds.{kind_in}
+use Rattle.typing_heights.specs.Adds.{Adds, FromBelow}
+use Rattle.typing_effects.specs.Kinds.{kind_in}
 use Rattle.jvm_typing.specs.KindPasses.{Item, items_of, StartAt}
 use Rattle.jvm_typing.proofs.starts.start_facts.Given as goal
 

@@ -2,8 +2,8 @@ use Rattle.std.proofs.Common.{rules, ◌≡◌, ◌∙◌, ◌++◌, List, ap, m
 use Rattle.jo_prog.specs.InsnTyping.{param_kinds}
 use Rattle.jo_prog.specs.MethodTypes.{method_desc_in}
 use Rattle.jo_prog.specs.Typing.{Kind, Unset}
-use Rattle.jvm_typing.specs.declared.kinds.Kind.{Kind as KindHere}
-use Rattle.jvm_typing.specs.Kinds.{kind_in}
+use Rattle.typing_effects.specs.declared.kinds.Kind.{Kind as KindHere}
+use Rattle.typing_effects.specs.Kinds.{kind_in}
 use Rattle.jvm_typing.proofs.StartLemmas.{map_take}
 use Rattle.jvm_typing.proofs.starts.start_kinds.Goals as goal
 

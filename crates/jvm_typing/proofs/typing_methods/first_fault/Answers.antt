@@ -1,10 +1,10 @@
 use Rattle.std.proofs.Common.{List, Contains, refl, subst}
 use Rattle.jo_prog.specs.declared.typed.TypeFault.{TypeFault}
 use Rattle.jvm_typing.specs.declared.facts.Fact.{Fact}
-use Rattle.jvm_typing.specs.Adds.{Adds}
-use Rattle.jvm_typing.specs.FirstFaults.{IsFirstOf}
+use Rattle.typing_heights.specs.Adds.{Adds}
+use Rattle.typing_heights.specs.FirstFaults.{IsFirstOf}
 use Rattle.jvm_typing.specs.KindFaults.{IsKindFault}
-use Rattle.jvm_typing.specs.Subjects.{program_of, typable_of}
+use Rattle.typing_heights.specs.Subjects.{program_of, typable_of}
 use Rattle.jvm_typing.proofs.FirstAnswerLemmas.{first_answer, joined}
 use Rattle.jvm_typing.proofs.typing_methods.first_fault.Goals as goal
 

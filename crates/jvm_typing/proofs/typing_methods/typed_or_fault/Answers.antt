@@ -2,9 +2,9 @@ use Rattle.std.proofs.Common.{rules, ◌≡◌, ◌↔◌, ℕ, List, Option, So
 use Rattle.jo_prog.specs.declared.typed.TypeFault.{TypeFault}
 use Rattle.jo_prog.specs.TypingPaths.{HasHeightAt}
 use Rattle.jvm_typing.specs.KindFaults.{IsFirstAnswer}
-use Rattle.jvm_typing.specs.Searches.{height_at}
-use Rattle.jvm_typing.specs.Subjects.{program_of, typable_of}
-use Rattle.jvm_typing.proofs.HeightLemmas.{heights_exact}
+use Rattle.typing_heights.specs.Searches.{height_at}
+use Rattle.typing_heights.specs.Subjects.{program_of, typable_of}
+use Rattle.typing_heights.proofs.HeightLemmas.{heights_exact}
 use Rattle.jvm_typing.proofs.typing_methods.typed_or_fault.Goals as goal
 
 pub returns-in-None : goal.returns-in-None

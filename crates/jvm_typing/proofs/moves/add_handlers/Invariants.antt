@@ -1,7 +1,0 @@
-use Rattle.std.proofs.Common.{Contains}
-use Rattle.jvm_typing.specs.Adds.{Adds, FromBelow}
-use Rattle.jvm_typing.specs.Moves.{HandlerMove}
-use Rattle.jvm_typing.proofs.moves.add_handlers.Given as goal
-
-abbrev pub invariant-loop-place : goal.invariant-loop-place
-invariant-loop-place l = Adds (Contains l.initial.moves.items) (Contains l.moves.items) (FromBelow l.place (HandlerMove l.rows l.from))

@@ -1,5 +1,0 @@
-use Rattle.std.proofs.Common.{◌≡◌, ℕ, None, Option, replicate}
-use Rattle.jvm_typing.proofs.search.no_heights.Given as goal
-
-abbrev pub invariant-loop : goal.invariant-loop
-invariant-loop l = l.heights.items ≡ replicate {A = Option ℕ} l.counter None

@@ -1,0 +1,10 @@
+pub mod Searches
+pub mod Sizes
+pub mod Subjects
+pub mod Marks
+pub mod Spots
+pub mod Spreads
+pub mod Adds
+pub mod Moves
+pub mod FirstFaults
+pub mod HeightFaults
