@@ -1,14 +1,3 @@
-pub mod ChainWalks
-pub mod SlicerLemmas
-pub mod PlainLine
-pub mod PlainReaching
-pub mod BuildingLemmas
-pub mod NodeLists
-pub mod PlainSteps
-pub mod PlainCalls
-pub mod PlainTyping
-pub mod PlainWalk
-pub mod WorkedPlain
 pub mod StepLemmas
 pub mod ExploreLemmas
 pub mod AddingLemmas

@@ -1,5 +1,3 @@
-pub mod Slices
-pub mod Building
 pub mod Adding
 pub mod Exploring
 pub mod NodeUses

@@ -11,7 +11,7 @@ use Rattle.jo_prog.specs.declared.operations.Operation.TheVariants.{Return}
 use Rattle.jo_prog.specs.Program.{code_at, as_operation, operation_in, operation_at}
 use Rattle.jo_prog.specs.Typing.{IsTypedCode}
 use Rattle.jo_prog.specs.PlainCode.{IsWellLabelled, IsPlainProgram, IsPlainFrom, last, then}
-use Rattle.flow_graph.specs.Building.{HasShortCode}
+use Rattle.plain_graph.specs.Building.{HasShortCode}
 use Rattle.joana_top.specs.Stops.{GivesLabels}
 use Rattle.joana_top.specs.Check.{IsFirstForm, HasShortLimits, IsFormOf, IsVerdict, IsDecision}
 use Rattle.joana_top.specs.declared.commands.check.Decision.{Decision}

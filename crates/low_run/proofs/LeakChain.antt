@@ -25,9 +25,9 @@ use Rattle.dependence.specs.Flow.{FlowEdge, begins, falls, calls, arrives, IsFlo
 use Rattle.dependence.specs.Dependence.{one, more}
 use Rattle.dependence.specs.Graph.{at_entry, DependenceEdge, used, passed, shown}
 use Rattle.dependence.specs.GraphData.{IsDependenceGraph}
-use Rattle.flow_graph.proofs.NodeLists.{contains_first, contains_one}
-use Rattle.flow_graph.proofs.PlainLine.{pc_or_zero, flow_on}
-use Rattle.flow_graph.proofs.PlainReaching.{root}
+use Rattle.plain_graph.proofs.NodeLists.{contains_first, contains_one}
+use Rattle.plain_graph.proofs.PlainLine.{pc_or_zero, flow_on}
+use Rattle.plain_graph.proofs.PlainReaching.{root}
 use Rattle.low_run.specs.ByEdges.{result, call, IllegalByEdges, AllCleanByEdges}
 use Rattle.low_run.specs.Leak.{leaking_code, leaking_program}
 use Rattle.low_run.specs.Verdict.{CleanForAll}

@@ -11,7 +11,7 @@ use Rattle.jo_prog.specs.Labels.{label_of, reaches}
 use Rattle.jo_prog.specs.Machine.{input_at}
 use Rattle.jo_prog.specs.Runs.{run_from, run, seen}
 use Rattle.jo_prog.specs.Worked.{worked_labels, worked_inputs}
-use Rattle.flow_graph.proofs.NodeLists.{contains_first}
+use Rattle.plain_graph.proofs.NodeLists.{contains_first}
 use Rattle.low_run.specs.Leak.{leaking_program}
 use Rattle.low_run.specs.Security.{Agree, AgreeOnInputs, Secure, source_level}
 use Rattle.low_run.proofs.Agreement.{other_out_disagrees}

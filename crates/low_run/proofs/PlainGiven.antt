@@ -34,12 +34,12 @@ use Rattle.dependence.specs.Dependence.{one, more}
 use Rattle.dependence.specs.Flow.{node_of, node_at, falls_through, calls_native, FlowEdge, begins, falls, calls, arrives as arrives_at, IsFlowNode, FlowReaches, reads_of, by_instr as reads_here, Writes, by_instr as writes_here, by_result, ArgumentPlace, of_argument}
 use Rattle.dep_nodes.specs.Nodes.{node}
 use Rattle.dependence.specs.Graph.{at_entry, DependenceEdge, used, passed, shown, label_at, is_source, is_sink}
-use Rattle.flow_graph.proofs.NodeLists.{contains_one, contains_none, contains_first}
-use Rattle.flow_graph.proofs.PlainCalls.{result_place}
-use Rattle.flow_graph.proofs.PlainLine.{flow_on}
-use Rattle.flow_graph.proofs.PlainReaching.{root, no_write_at_call}
-use Rattle.flow_graph.proofs.PlainSteps.{instr_writes}
-use Rattle.flow_graph.proofs.PlainTyping.{goes_on_from, source_label, sink_label, source_call, sink_call, plain_callee}
+use Rattle.plain_graph.proofs.NodeLists.{contains_one, contains_none, contains_first}
+use Rattle.plain_graph.proofs.PlainCalls.{result_place}
+use Rattle.plain_graph.proofs.PlainLine.{flow_on}
+use Rattle.plain_graph.proofs.PlainReaching.{root, no_write_at_call}
+use Rattle.plain_graph.proofs.PlainSteps.{instr_writes}
+use Rattle.plain_graph.proofs.PlainTyping.{goes_on_from, source_label, sink_label, source_call, sink_call, plain_callee}
 use Rattle.low_run.specs.Security.{source_level}
 use Rattle.low_run.specs.ByEdges.{CleanByEdges, result, call}
 use Rattle.low_run.proofs.PlainFrames.{written_at, value_from, writes_there, StackHolds, empty, push, LocalsHold, pushed_stack, locals_beside, popped_none, frame_at, executed_in, operation_goes}

@@ -22,7 +22,7 @@ use Rattle.dep_nodes.specs.Graphs.{graph_name, graph_node, HasName, links_of, wa
 use Rattle.dep_nodes.specs.Chains.{Link, end_of}
 use Rattle.dependence.specs.Graph.{IsNode, of_flow, of_argument, of_kind, of_thrown, of_parameter, IsReached, label_at}
 use Rattle.dependence.specs.GraphData.{resolved_of, IsDependenceGraph}
-use Rattle.flow_graph.proofs.ChainWalks.{walk_is_valid, walk_ends, chain_is_walk, chain_of_program, no_fork}
+use Rattle.plain_graph.proofs.ChainWalks.{walk_is_valid, walk_ends, chain_is_walk, chain_of_program, no_fork}
 use Rattle.low_run.specs.Verdict.{label_resolved, Hides, Shows, IsHidden, IsObserved, IllegalChain, Clean, CleanForAll, HasCleanGraph}
 use Rattle.low_run.specs.ByEdges.{HiddenByEdges, result, ObservedByEdges, call, let_out, IllegalByEdges, AllCleanByEdges}
 use Rattle.low_run.specs.Security.{Secure}

@@ -27,12 +27,12 @@ use Rattle.dependence.specs.Flow.{node_of, node_at, arguments_at, FlowEdge, begi
 use Rattle.dependence.specs.Dependence.{one, more}
 use Rattle.dependence.specs.Graph.{at_entry, label_at, UsesCursor, at_result, DependenceEdge, used, passed, shown, controlled, ended, next_input}
 use Rattle.dependence.specs.GraphData.{IsDependenceGraph}
-use Rattle.flow_graph.proofs.ChainWalks.{no_fork}
-use Rattle.flow_graph.proofs.NodeLists.{contains_first, contains_none, contains_one}
-use Rattle.flow_graph.proofs.PlainLine.{pc_or_zero, flow_line}
-use Rattle.flow_graph.proofs.PlainReaching.{controls_entry}
-use Rattle.flow_graph.proofs.PlainSteps.{contains_cons}
-use Rattle.flow_graph.proofs.WorkedPlain.{worked_is_plain}
+use Rattle.plain_graph.proofs.ChainWalks.{no_fork}
+use Rattle.plain_graph.proofs.NodeLists.{contains_first, contains_none, contains_one}
+use Rattle.plain_graph.proofs.PlainLine.{pc_or_zero, flow_line}
+use Rattle.plain_graph.proofs.PlainReaching.{controls_entry}
+use Rattle.plain_graph.proofs.PlainSteps.{contains_cons}
+use Rattle.plain_graph.proofs.WorkedPlain.{worked_is_plain}
 use Rattle.low_run.specs.ByEdges.{HiddenByEdges, result, ObservedByEdges, call, let_out, AllCleanByEdges}
 use Rattle.low_run.specs.Verdict.{CleanForAll}
 use Rattle.low_run.proofs.Verdicts.{illegal_both}

@@ -3,7 +3,7 @@ ghost use Rattle.std.specs.Prelude.{◌≡◌, ◌^◌, ◌<◌, ℕ, IfOk, IfSo
 ghost use Rattle.jo_prog.specs.Labels.{reaches, misses, shown_at, brings, lets_out};
 ghost use Rattle.dep_nodes.specs.Graphs.{WalksTo};
 ghost use Rattle.dependence.specs.GraphData.{IsDependenceGraph};
-ghost use Rattle.flow_graph.specs.Slices.{HasEdgesInside};
+ghost use Rattle.plain_graph.specs.Slices.{HasEdgesInside};
 ghost use Rattle.low_run.specs.LevelFlows.{KeepsFlows};
 ghost use Rattle.low_run.specs.Verdict.{label_resolved, CleanForAll, Reports};
 ghost use Rattle.low_run.specs.Sides.{is_on, places_from, hidden_nodes, observed_nodes, IsForbiddenWalk};
@@ -11,11 +11,11 @@ ghost use Rattle.low_run.specs.Sides.{is_on, places_from, hidden_nodes, observed
 use crate::level_flows::{flows, rows_of};
 use chain_report::report;
 use dep_nodes::{Chain, Graph, NodeKind, NodeName};
-use flow_graph::slicer;
 use jo_ids::{LevelId, MethodId, NodeId};
 use jo_order::Levels;
 use jo_prog::labels::{self, Label, Labels};
 use jo_prog::program::Program;
+use plain_graph::slicer;
 use std::alloc::{AllocError as Memory, Global};
 
 /// What the observer may not depend on, or what it may see.

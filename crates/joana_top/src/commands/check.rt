@@ -3,7 +3,7 @@ ghost use Rattle.std.specs.Prelude.{◌≡◌, ◌↔◌, IfOk, IsTrue};
 ghost use Rattle.hierarchy.specs.Hierarchies.{HasItsParents};
 ghost use Rattle.jo_prog.specs.Program.{HasNumbers};
 ghost use Rattle.jo_prog.specs.PlainCode.{IsWellLabelled, IsPlainProgram};
-ghost use Rattle.flow_graph.specs.Building.{HasShortCode};
+ghost use Rattle.plain_graph.specs.Building.{HasShortCode};
 ghost use Rattle.joana_base.specs.Files.{names_of, AreReadable};
 ghost use Rattle.joana_base.specs.Reading.{files_change, in_bytes, AfterProgramReads};
 ghost use Rattle.joana_base.specs.declared.answers.Stop.TheVariants.{Faulty};
@@ -12,7 +12,7 @@ ghost use Rattle.joana_base.specs.declared.status.InputFault.TheVariants.{NotBui
 ghost use Rattle.joana_top.specs.Check.{has_file_code, HasOneCode, CatchesNothing, HasLimits, HasShortLimits, IsFormOf, IsVerdict, IsDecision, IsShown, IsProgramOutcome, IsFilesOutcome, IsCheckOutcome};
 
 use super::stops::{linked, policy_for};
-use flow_graph::sdg;
+use plain_graph::sdg;
 use hierarchy::Hierarchy;
 use jo_ids::MethodId;
 use jo_io::Files;

@@ -5,7 +5,7 @@ use Rattle.dep_nodes.specs.Graphs.{links_of, WalksTo}
 use Rattle.low_run.specs.Sides.{hidden_nodes, observed_nodes, IsForbiddenWalk}
 use Rattle.low_run.specs.Verdict.{Clean}
 use Rattle.low_run.proofs.Sides.{clean_more, clean_all}
-use Rattle.flow_graph.proofs.ChainWalks.{edges_inside}
+use Rattle.plain_graph.proofs.ChainWalks.{edges_inside}
 use Rattle.low_run.proofs.Verdicts.{forbidden_is_illegal, no_walk_is_clean}
 use Rattle.low_run.proofs.refusals.refusal_by.Goals as goal
 
