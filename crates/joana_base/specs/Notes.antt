@@ -10,9 +10,12 @@ use Rattle.class_pool.specs.declared.faults.ClassFault.{ClassFault}
 use Rattle.class_asm.specs.declared.assembly.AsmFault.{AsmFault}
 use Rattle.class_asm.specs.declared.assembly.AsmFault.TheVariants as texts
 use Rattle.joana_base.specs.declared.status.InputFault.{InputFault}
-use Rattle.joana_base.specs.declared.status.InputFault.TheVariants.{NotBuilt, ClassList, Class, Link, Policy, Asm}
+use Rattle.joana_base.specs.declared.status.InputFault.TheVariants.{NotBuilt, ClassList, Class, Link, Typing, Policy, Asm}
 use Rattle.joana_base.specs.declared.status.LinkKind.{LinkKind}
 use Rattle.joana_base.specs.declared.status.LinkKind.TheVariants.{TwiceDefined, MissingClass, CyclicSuper, MissingMember, NotImplemented, InterfaceBody, StaticInit}
+use Rattle.joana_base.specs.declared.status.TypingFault.{TypingFault}
+use Rattle.joana_base.specs.declared.status.TypingKind.{TypingKind}
+use Rattle.joana_base.specs.declared.status.TypingKind.TheVariants as typings
 use Rattle.joana_base.specs.declared.status.PolicyKind.{PolicyKind}
 use Rattle.joana_base.specs.declared.status.PolicyKind.TheVariants as policies
 use Rattle.jo_ids.specs.declared.LimitKind.{LimitKind}
@@ -81,6 +84,18 @@ link_word StaticInit = codes "L7"
 abbrev pub link_words : LinkKind → List ℕ → List ℕ
 link_words kind name = link_word kind ++ 32 ∷ escaped name
 
+abbrev pub typing_word : TypingKind → List ℕ
+typing_word typings.Underflow = codes "Y1"
+typing_word typings.Overflow = codes "Y2"
+typing_word typings.HeightDiffers = codes "Y3"
+typing_word typings.WrongKind = codes "Y4"
+typing_word typings.FallsOff = codes "Y5"
+typing_word typings.LocalRange = codes "Y6"
+
+-- the fault of a method: its code, the method as it is spelled, the pc
+abbrev pub typing_words : TypingFault → List ℕ
+typing_words fault = typing_word fault.kind ++ 32 ∷ fault.method ++ 32 ∷ decimal fault.pc
+
 -- the fault of a policy, before what it carries
 abbrev pub policy_word : PolicyKind → List ℕ
 policy_word policies.NotToml = codes "P1"
@@ -100,6 +115,7 @@ fault_words NotBuilt = codes "NotBuilt"
 fault_words (ClassList place) = codes "B1 " ++ decimal place
 fault_words (Class file fault) = class_words file fault
 fault_words (Link kind name) = link_words kind name
+fault_words (Typing fault) = typing_words fault
 fault_words (Policy kind carried) = policy_word kind ++ carried
 fault_words (Asm fault) = asm_words fault
 

@@ -11,4 +11,7 @@ pub use answers::{Answer, Stop, Unread};
 pub use classes::{class_of_file, class_of_text, classes_of};
 pub use notes::refusal_line;
 pub use reading::{ProgramFiles, ProgramNames, read_file, read_program};
-pub use status::{InputFault, LimitKind, LinkKind, OutsideFault, PolicyKind, Refusal, Status};
+pub use status::{
+    InputFault, LimitKind, LinkKind, OutsideFault, PolicyKind, Refusal, Status, TypingFault,
+    TypingKind,
+};

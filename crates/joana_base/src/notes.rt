@@ -3,7 +3,9 @@ ghost use Rattle.std.specs.Prelude.{◌≡◌, ◌++◌, OnOk, IfOk, codes};
 ghost use Rattle.std.specs.Fmt.{decimal};
 ghost use Rattle.joana_base.specs.Notes;
 
-use crate::status::{InputFault, LimitKind, LinkKind, PolicyKind, Refusal};
+use crate::status::{
+    InputFault, LimitKind, LinkKind, PolicyKind, Refusal, TypingFault, TypingKind,
+};
 use class_asm::AsmFault;
 use class_pool::{ClassCode, ClassFault, Cut};
 use jo_text::{Name, push_escaped};
@@ -123,6 +125,30 @@ fn push_link_fault(out: &mut Vec<u8>, kind: LinkKind, name: &Name) -> Result<(),
     push_escaped(out, name.as_slice())
 }
 
+fn typing_word(kind: TypingKind) -> &'static [u8]
+    ensures { result.now ≡ Notes.typing_word kind }
+{
+    match kind {
+        TypingKind::Underflow => b"Y1",
+        TypingKind::Overflow => b"Y2",
+        TypingKind::HeightDiffers => b"Y3",
+        TypingKind::WrongKind => b"Y4",
+        TypingKind::FallsOff => b"Y5",
+        TypingKind::LocalRange => b"Y6",
+    }
+}
+
+/// The fault of a method.
+fn push_typing_fault(alloc: Global, out: &mut Vec<u8>, fault: &TypingFault) -> Result<(), Memory>
+    ensures { OnOk result (out.new.items ≡ out.old.items ++ Notes.typing_words fault.now) }
+{
+    out.extend_from_slice(typing_word(fault.kind))?;
+    out.push(b' ')?;
+    out.extend_from_slice(fault.method.as_slice())?;
+    out.push(b' ')?;
+    push_number(alloc, out, fault.pc)
+}
+
 fn policy_word(kind: PolicyKind) -> &'static [u8]
     ensures { result.now ≡ Notes.policy_word kind }
 {
@@ -157,6 +183,7 @@ fn push_fault(alloc: Global, out: &mut Vec<u8>, fault: &InputFault) -> Result<()
         InputFault::ClassList(place) => push_at(alloc, out, b"B1 ", *place),
         InputFault::Class(file, fault) => push_class_fault(alloc, out, *file, *fault),
         InputFault::Link(kind, name) => push_link_fault(out, *kind, name),
+        InputFault::Typing(fault) => push_typing_fault(alloc, out, fault),
         InputFault::Policy(kind, carried) => push_policy_fault(out, *kind, carried),
         InputFault::Asm(fault) => push_asm_fault(alloc, out, *fault),
     }

@@ -42,6 +42,32 @@ pub enum LinkKind {
     StaticInit,
 }
 
+/// Kinds of faults of typing, in the order in which they are told of one pc.
+#[derive(Clone, Copy, PartialEq, Eq, Debug)]
+pub enum TypingKind {
+    /// The instruction pops more than is there.
+    Underflow,
+    /// After the instruction the stack is higher than its bound.
+    Overflow,
+    /// Two paths arrive with different heights of the stack.
+    HeightDiffers,
+    /// A place isn't of the kind that is needed.
+    WrongKind,
+    /// The code may go on where none stands.
+    FallsOff,
+    /// The method has fewer locals.
+    LocalRange,
+}
+
+/// A fault of typing.
+#[derive(Drop)]
+pub struct TypingFault {
+    pub kind: TypingKind,
+    /// The method as it is spelled.
+    pub method: Name,
+    pub pc: u32,
+}
+
 /// Kinds of faults of a policy.
 #[derive(Clone, Copy, PartialEq, Eq, Debug)]
 pub enum PolicyKind {
@@ -75,6 +101,8 @@ pub enum InputFault {
     Class(u32, ClassFault),
     /// The class files make no program, for the class with this name.
     Link(LinkKind, Name),
+    /// The first fault of the method with the least number that has one.
+    Typing(TypingFault),
     /// The first fault of the policy, and what it carries as it is printed: names, levels, methods and pcs, each behind
     /// a space.
     Policy(PolicyKind, Name),

@@ -138,27 +138,61 @@ fn each_sink_has_its_level(rt: HostRuntime) -> Result<(), Fail> {
 #[test]
 fn other_classes_are_not_built(rt: HostRuntime) -> Result<(), Fail> {
     let alloc = rt.alloc();
-    // an opcode outside plain code, an underflow, a local that isn't set, a return in the middle
+    // an opcode outside plain code, a return in the middle
     assert_eq!(rt; with_class(alloc, 195, 1, &[0x68])?.as_str(), NOT_BUILT);
-    assert_eq!(rt; with_class(alloc, 193, 1, &[0x3b])?.as_str(), NOT_BUILT);
-    assert_eq!(rt;
-        with_class(alloc, 192, 2, &[0x3b, 0x1b])?.as_str(),
-        NOT_BUILT
-    );
     assert_eq!(rt;
         with_class(alloc, 193, 3, &[0xb1, 0xb1, 0xb1])?.as_str(),
         NOT_BUILT
     );
-    // a row of the exception table
-    let row = [0, 1, 0, 0, 0, 3, 0, 0, 0, 0];
-    let caught = changed(edited(alloc, 200, 2, &row)?, 176, 0x23);
-    assert_eq!(rt; with_good_policy(alloc, caught)?.as_str(), NOT_BUILT);
+    // athrow behind the return, and a row of the exception table that leads there
+    let row = [0xbf, 0, 1, 0, 0, 0, 3, 0, 15, 0, 0];
+    let longer = changed(edited(alloc, 200, 2, &row)?, 184, 16);
+    assert_eq!(rt;
+        with_good_policy(alloc, changed(longer, 176, 0x24))?.as_str(),
+        NOT_BUILT
+    );
     // a second method with code: secret()V
     let method = [
         0u8, 5, 0, 8, 0, 5, 0, 11, 0, 1, 0, 12, 0, 0, 0, 13, 0, 0, 0, 0, 0, 0, 0, 1, 0xb1, 0, 0, 0,
         0,
     ];
     assert_eq!(rt; with_class(alloc, 137, 2, &method)?.as_str(), NOT_BUILT);
+    Ok(())
+}
+
+#[test]
+fn faults_of_typing_are_told(rt: HostRuntime) -> Result<(), Fail> {
+    let alloc = rt.alloc();
+    // istore_0 of nothing, iload_1 of a local that isn't set
+    assert_eq!(rt;
+        with_class(alloc, 193, 1, &[0x3b])?.as_str(),
+        "3 joana: input Y1 Main.main()V 8\n"
+    );
+    assert_eq!(rt;
+        with_class(alloc, 192, 2, &[0x3b, 0x1b])?.as_str(),
+        "3 joana: input Y4 Main.main()V 8\n"
+    );
+    // iconst_1 in the place of the return
+    assert_eq!(rt;
+        with_class(alloc, 199, 1, &[4])?.as_str(),
+        "3 joana: input Y5 Main.main()V 14\n"
+    );
+    // a handler at pc 0, where the stack is empty
+    let row = [0, 1, 0, 0, 0, 3, 0, 0, 0, 0];
+    let caught = changed(edited(alloc, 200, 2, &row)?, 176, 0x23);
+    assert_eq!(rt;
+        with_good_policy(alloc, caught)?.as_str(),
+        "3 joana: input Y3 Main.main()V 0\n"
+    );
+    // one int on the stack at most, and one local
+    assert_eq!(rt;
+        with_class(alloc, 178, 1, &[1])?.as_str(),
+        "3 joana: input Y2 Main.main()V 9\n"
+    );
+    assert_eq!(rt;
+        with_class(alloc, 180, 1, &[1])?.as_str(),
+        "3 joana: input Y6 Main.main()V 7\n"
+    );
     Ok(())
 }
 

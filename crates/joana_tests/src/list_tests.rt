@@ -23,6 +23,23 @@ end
 /// Its superclass isn't there.
 const NEEDY: &str = "class Needy super Gone flags 0x0021\n";
 
+/// Two ways lead to pc 6, with different heights of the stack. A later method pops what isn't there.
+const HEIGHTS: &str = "class Main super java/lang/Object flags 0x0021
+method main ()V flags 0x0009 stack 2 locals 0
+iconst_1
+iconst_0
+ifeq L
+iconst_2
+L:
+pop
+return
+end
+method next ()V flags 0x0009 stack 1 locals 0
+pop
+return
+end
+";
+
 /// The class file of a text.
 fn class_of(alloc: Global, text: &str) -> Result<Vec<u8>, Fail> {
     let stored = Stored {
@@ -34,7 +51,7 @@ fn class_of(alloc: Global, text: &str) -> Result<Vec<u8>, Fail> {
     Ok(made.out)
 }
 
-/// What `check` answers over this list. Its paths may be Main, Box, Loop, Init and Needy.
+/// What `check` answers over this list. Its paths may be Main, Box, Loop, Init, Needy and Heights.
 fn check(alloc: Global, list: &[u8]) -> Result<Answer, Fail> {
     let (head, labels) = (worked_head(), worked_labels());
     let policy = format!(in alloc; "{head}{labels}")?;
@@ -46,6 +63,7 @@ fn check(alloc: Global, list: &[u8]) -> Result<Answer, Fail> {
     pairs.push(("Loop".to_string(alloc)?, class_of(alloc, LOOP)?))?;
     pairs.push(("Init".to_string(alloc)?, class_of(alloc, INIT)?))?;
     pairs.push(("Needy".to_string(alloc)?, class_of(alloc, NEEDY)?))?;
+    pairs.push(("Heights".to_string(alloc)?, class_of(alloc, HEIGHTS)?))?;
     answer_over(alloc, &["check", "l", "p"], pairs, NONE_FAILS)
 }
 
@@ -115,6 +133,22 @@ fn the_first_kind_of_fault_is_told(rt: HostRuntime) -> Result<(), Fail> {
     assert_eq!(rt;
         told_of(alloc, b"Loop\np\n")?.as_str(),
         "3 joana: input C2 1 0\n"
+    );
+    Ok(())
+}
+
+#[test]
+fn the_first_method_with_a_fault_is_told(rt: HostRuntime) -> Result<(), Fail> {
+    let alloc = rt.alloc();
+    // before the policy, which names methods that aren't there
+    assert_eq!(rt;
+        told_of(alloc, b"Heights\n")?.as_str(),
+        "3 joana: input Y3 Main.main()V 6\n"
+    );
+    // behind a fault of linking
+    assert_eq!(rt;
+        told_of(alloc, b"Heights\nLoop\n")?.as_str(),
+        "3 joana: input L3 Loop\n"
     );
     Ok(())
 }

@@ -1,7 +1,7 @@
 -- What the parts of the decision say of the first form.
 use Rattle.std.proofs.Common.{◌≡◌, ◌∙◌, ℕ, ◌<◌, ◌^◌, Bool, true, false, cond, nat_lt, List, length, get_or, Option, Some, None, slice_get, refl, sym, ap, subst}
 use Rattle.std.proofs.lemmas.Bool.{ltb-true}
-use Rattle.std.proofs.lemmas.Option.{none-some, slice_get_read, same_Some}
+use Rattle.std.proofs.lemmas.Option.{none-some, slice_get_read, slice_get_within, same_Some}
 use Rattle.jo_insn.specs.Instructions.{decoded}
 use Rattle.jo_prog.specs.declared.program.Program.{Program}
 use Rattle.jo_prog.specs.declared.program.Code.{Code}
@@ -9,39 +9,31 @@ use Rattle.jo_prog.specs.declared.labels.Labels.{Labels}
 use Rattle.jo_prog.specs.declared.operations.Operation.{Operation}
 use Rattle.jo_prog.specs.declared.operations.Operation.TheVariants.{Return}
 use Rattle.jo_prog.specs.Program.{code_at, as_operation, operation_in, operation_at}
-use Rattle.jo_prog.specs.Typing.{IsTypedCode}
 use Rattle.jo_prog.specs.PlainCode.{IsWellLabelled, IsPlainProgram, IsPlainFrom, last, then}
 use Rattle.plain_graph.specs.Building.{HasShortCode}
-use Rattle.joana_top.specs.Stops.{GivesLabels}
+use Rattle.joana_top.specs.Stops.{IsTypedProgram, GivesLabels}
 use Rattle.joana_top.specs.Check.{IsFirstForm, HasShortLimits, IsFormOf, IsVerdict, IsDecision}
 use Rattle.joana_top.specs.declared.commands.check.Decision.{Decision}
 use Rattle.joana_top.specs.declared.commands.check.Decision.TheVariants.{NotBuilt, Accepted, Refused}
+use Rattle.joana_top.proofs.PlainTyped.{plain_typed}
 
 pub read_at : {X : Type 0} (xs : List X) (i : ℕ) (x : X) → i < length xs → x ≡ get_or xs i x → slice_get xs i ≡ Some x
 read_at xs i x below at = slice_get_read xs (length xs) i x refl below at
 
-pub plain_of : (program : Program) (labels : Labels) → IsWellLabelled program labels → IsFormOf program labels → IsPlainProgram program labels
-plain_of program labels well f =
-    let same : f.typed.0 ≡ f.plain.0 = same_Some f.typed.0 f.plain.0 (sym f.typed.1 ∙ f.plain.1) in
+-- a program of this form that is typed and well labelled is plain
+pub plain_of : (program : Program) (labels : Labels) → IsTypedProgram program → IsWellLabelled program labels → IsFormOf program labels → IsPlainProgram program labels
+plain_of program labels typed well f =
+    let is_method = typed labels.entry (slice_get_within program.methods labels.entry well.entry.method well.entry.found) in
     record {
       well_labelled = well;
       code = f.plain.0;
       found = f.plain.1;
-      typed = subst (IsTypedCode program labels.entry) same f.typed.2;
+      typed = plain_typed program labels f.plain.0 well f.plain.1 (f.no_rows f.plain.0 f.plain.1) f.plain.2 is_method;
       plain = f.plain.2;
     }
 
-module _ (program : Program) (policy : List ℕ) (labels : Labels) where
-  pub first_form : GivesLabels program policy labels → IsWellLabelled program labels → IsFormOf program labels → IsFirstForm program policy labels
-  first_form gives well f = record { labels_are = gives; one_code = f.one_code; no_rows = f.no_rows; plain = plain_of program labels well f }
-
-  pub form_of : IsFirstForm program policy labels → IsFormOf program labels
-  form_of f = record {
-    one_code = f.one_code;
-    no_rows = f.no_rows;
-    plain = (f.plain.code, f.plain.found, f.plain.plain);
-    typed = (f.plain.code, f.plain.found, f.plain.typed);
-  }
+pub first_form : (program : Program) (policy : List ℕ) (labels : Labels) → GivesLabels program policy labels → IsTypedProgram program → IsWellLabelled program labels → IsFormOf program labels → IsFirstForm program policy labels
+first_form program policy labels gives typed well f = record { labels_are = gives; one_code = f.one_code; no_rows = f.no_rows; plain = plain_of program labels typed well f }
 
 -- the verdict on the program is the decision
 pub decided : (program : Program) (labels : Labels) (decision : Decision) → IsFormOf program labels → IsVerdict program labels decision → IsDecision program labels decision

@@ -2,3 +2,4 @@ pub mod Endings
 pub mod Forms
 pub mod Outcomes
 pub mod StopLemmas
+mod PlainTyped

@@ -20,12 +20,12 @@ use Rattle.joana_base.specs.declared.answers.Answer.TheVariants.{Yes, No}
 use Rattle.joana_base.specs.declared.answers.Stop.{Stop}
 use Rattle.joana_base.specs.declared.answers.Stop.TheVariants.{Faulty, Unread, Memory}
 use Rattle.joana_top.specs.Answers.{IsOutcome, IsReadOutcome}
-use Rattle.joana_top.specs.Stops.{IsLinked, IsLinkStop, GivesLabels, IsLabelStop}
-use Rattle.joana_top.specs.Check.{IsReportOf, IsReportText, IsCheckText, IsCheckAnswer, IsSecureCheck, RefusesProgram, of_policy, of_form, in_files, in_classes, in_program, IsDecision, IsShown, IsProgramOutcome, IsFilesOutcome, IsCheckOutcome}
+use Rattle.joana_top.specs.Stops.{IsLinked, IsLinkStop, IsTypedProgram, IsTypingStop, GivesLabels, IsLabelStop}
+use Rattle.joana_top.specs.Check.{IsReportOf, IsReportText, IsCheckText, IsCheckAnswer, IsSecureCheck, RefusesProgram, of_typing, of_policy, of_form, in_files, in_classes, in_program, IsDecision, IsShown, IsProgramOutcome, IsFilesOutcome, IsCheckOutcome}
 use Rattle.joana_top.specs.OneFile.{OfFile}
 use Rattle.joana_top.specs.declared.commands.check.Decision.{Decision}
 use Rattle.joana_top.specs.declared.commands.check.Decision.TheVariants as decisions
-use Rattle.joana_top.proofs.Forms.{first_form, form_of}
+use Rattle.joana_top.proofs.Forms.{first_form}
 
 -- ---- from files that were read to a command
 
@@ -85,18 +85,23 @@ module _ (files : ProgramFiles) (classes : List ClassFile) (passes : HaveClasses
   -- what is said of the program and the policy is said of the files
   pub of_program : (read : AreClasses files.classes classes) (program : Program) → IsLinked classes program → (result : Result Answer Stop) → IsProgramOutcome program files.policy result → IsFilesOutcome files result
   of_program read program linked (Ok (Yes text)) said =
-      (said.0, program, said.1, record { classes = classes; are_classes = read; passes = passes; linked = linked; form = said.2 }, said.3)
+      (said.0, program, said.2, record { classes = classes; are_classes = read; passes = passes; linked = linked; typed = said.1; form = said.3 }, said.4)
   of_program read program linked (Ok (No text)) said =
-      (program, said.0, record { classes = classes; are_classes = read; passes = passes; linked = linked; form = said.1 }, said.2)
+      (program, said.1, record { classes = classes; are_classes = read; passes = passes; linked = linked; typed = said.0; form = said.2 }, said.3)
   of_program read program linked (Err (Faulty refusal)) said = in_program classes program refusal passes linked said
   of_program read program linked (Err (Unread unread)) said = absurd said
   of_program read program linked (Err Memory) said = tt
 
 -- ---- a program and a policy
 
-module _ (program : Program) (policy : List ℕ) where
+pub refused_typing : (program : Program) (policy : List ℕ) (stop : Stop) → IsTypingStop program stop → IsProgramOutcome program policy (Err stop)
+refused_typing program policy (Faulty refusal) stopped = of_typing refusal stopped
+refused_typing program policy (Unread unread) stopped = absurd stopped
+refused_typing program policy Memory stopped = tt
+
+module _ (program : Program) (policy : List ℕ) (typed : IsTypedProgram program) where
   pub refused_policy : (stop : Stop) → IsLabelStop program policy stop → IsProgramOutcome program policy (Err stop)
-  refused_policy (Faulty refusal) stopped = of_policy refusal stopped
+  refused_policy (Faulty refusal) stopped = of_policy refusal typed stopped
   refused_policy (Unread unread) stopped = absurd stopped
   refused_policy Memory stopped = tt
 
@@ -105,19 +110,19 @@ module _ (program : Program) (policy : List ℕ) where
     pub decided : (decision : Decision) (result : Result Answer Stop) → IsDecision program labels decision → IsShown decision result → IsProgramOutcome program policy result
     decided decisions.NotBuilt (Err (Faulty refusal)) none shown =
         let P : Refusal → Type 0 = RefusesProgram program policy in
-        subst P (sym shown) (of_form labels gives (λ form. none (form_of program policy labels form)))
+        subst P (sym shown) (of_form labels typed gives none)
     decided decisions.NotBuilt (Err Memory) none shown = tt
     decided decisions.NotBuilt (Err (Unread unread)) none shown = absurd shown
     decided decisions.NotBuilt (Ok (Yes text)) none shown = absurd shown
     decided decisions.NotBuilt (Ok (No text)) none shown = absurd shown
-    decided decisions.Accepted (Ok (Yes text)) clean shown = (shown, labels, first_form program policy labels gives well clean.0, clean.1)
+    decided decisions.Accepted (Ok (Yes text)) clean shown = (shown, typed, labels, first_form program policy labels gives typed well clean.0, clean.1)
     decided decisions.Accepted (Ok (No text)) clean shown = absurd shown
     decided decisions.Accepted (Err Memory) clean shown = tt
     decided decisions.Accepted (Err (Faulty refusal)) clean shown = absurd shown
     decided decisions.Accepted (Err (Unread unread)) clean shown = absurd shown
     decided (decisions.Refused report) (Ok (No text)) reports shown =
         let P : List ℕ → Type 0 = IsReportOf program labels in
-        (labels, first_form program policy labels gives well reports.0, subst P (sym shown) reports.1)
+        (typed, labels, first_form program policy labels gives typed well reports.0, subst P (sym shown) reports.1)
     decided (decisions.Refused report) (Ok (Yes text)) reports shown = absurd shown
     decided (decisions.Refused report) (Err Memory) reports shown = tt
     decided (decisions.Refused report) (Err (Faulty refusal)) reports shown = absurd shown

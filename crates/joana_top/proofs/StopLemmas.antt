@@ -11,12 +11,14 @@ use Rattle.linker.proofs.ParentsThere.{parents_there}
 use Rattle.policy_tree.specs.declared.faults.PolicyFault.{PolicyFault}
 use Rattle.policy_tree.specs.declared.faults.PolicyFault.TheVariants as policies
 use Rattle.jo_policy.specs.Policies.{IsTextFault, OrMemory}
+use Rattle.jvm_typing.specs.declared.programs.MethodFault.{MethodFault}
+use Rattle.jvm_typing.specs.Typings.{IsFirstMethodFault}
 use Rattle.joana_base.specs.declared.status.LinkKind.{LinkKind}
 use Rattle.joana_base.specs.declared.status.PolicyKind.{PolicyKind}
 use Rattle.joana_base.specs.declared.status.Refusal.{Refusal}
 use Rattle.joana_base.specs.declared.answers.Stop.{Stop}
 use Rattle.joana_base.specs.declared.answers.Stop.TheVariants.{Faulty, Unread, Memory}
-use Rattle.joana_top.specs.Stops.{link_kind, of_linking, policy_kind, RefusesPolicy, of_text, link_stop_by, link_stop, IsLinkStop, IsPolicyStop, IsLabelStop}
+use Rattle.joana_top.specs.Stops.{link_kind, of_linking, policy_kind, RefusesPolicy, of_text, link_stop_by, link_stop, IsLinkStop, RefusesTyping, of_method, IsMethodStop, IsTypingStop, IsPolicyStop, IsLabelStop}
 
 pub has_parents : (classes : List ClassFile) (program : Program) → program ≡ program_of classes → HasItsParents program
 has_parents classes program is = let P : Program → Type 0 = HasItsParents in subst P (sym is) (parents_there (linked_classes classes))
@@ -30,6 +32,13 @@ link_stopped classes fault answer =
     by : (kind : Option LinkKind) → link_kind fault.code ≡ kind → IsLinkFault classes fault → IsLinkStop classes (link_stop_by kind fault.name)
     by None is told = tt
     by (Some kind) is told = of_linking fault kind told is
+
+-- so does the first fault of typing
+pub method_stopped : (program : Program) (found : MethodFault) (stop : Stop) → IsFirstMethodFault program found → IsMethodStop program found stop → IsTypingStop program stop
+method_stopped program found (Faulty refusal) first told =
+    let P : Refusal → Type 0 = RefusesTyping program in subst P (sym told.2) (of_method found told.0 first told.1)
+method_stopped program found (Unread unread) first told = absurd told
+method_stopped program found Memory first told = tt
 
 -- so does that of the policy
 sure : (F : PolicyFault → Type 0) (fault : PolicyFault) (kind : PolicyKind) → policy_kind fault ≡ Some kind → OrMemory F fault → F fault

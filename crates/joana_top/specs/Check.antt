@@ -9,7 +9,6 @@ use Rattle.jo_prog.specs.declared.labels.Labels.{Labels}
 use Rattle.jo_prog.specs.Program.{code_at, method_at}
 use Rattle.jo_prog.specs.FileClasses.{is_of_files}
 use Rattle.jo_prog.specs.PlainCode.{IsPlainFrom, IsPlainProgram}
-use Rattle.jo_prog.specs.Typing.{IsTyped}
 use Rattle.dep_nodes.specs.Nodes.{Node}
 use Rattle.dep_nodes.specs.Chains.{Link}
 use Rattle.chain_report.specs.Report.{chain_text}
@@ -27,7 +26,7 @@ use Rattle.joana_base.specs.declared.answers.Answer.TheVariants.{Yes, No}
 use Rattle.joana_base.specs.declared.answers.Stop.{Stop}
 use Rattle.joana_base.specs.declared.answers.Stop.TheVariants.{Faulty, Memory}
 use Rattle.joana_top.specs.Answers.{IsOutcome, IsReadOutcome}
-use Rattle.joana_top.specs.Stops.{IsLinked, RefusesClasses, GivesLabels, RefusesPolicy}
+use Rattle.joana_top.specs.Stops.{IsLinked, RefusesClasses, IsTypedProgram, RefusesTyping, GivesLabels, RefusesPolicy}
 use Rattle.joana_top.specs.declared.commands.check.Decision.{Decision}
 use Rattle.joana_top.specs.declared.commands.check.Decision.TheVariants.{NotBuilt, Accepted, Refused}
 
@@ -54,6 +53,13 @@ HasOneCode program entry =
 abbrev pub CatchesNothing : Program → ℕ → Type 0
 CatchesNothing program m = (code : Code) → code_at program m ≡ Some code → code.rows ≡ []
 
+-- of the methods of the class files the entry alone has code, which catches nothing and is one straight line
+pub record IsFormOf (program : Program) (labels : Labels) : Type 0 where
+  pub one_code : HasOneCode program labels.entry
+  pub no_rows : CatchesNothing program labels.entry
+  pub plain : (code : Code) × (code_at program labels.entry ≡ Some code)
+      × IsPlainFrom program labels labels.entry code 0
+
 -- a policy of this text gives the program these labels, with which it is of the first form
 pub record IsFirstForm (program : Program) (policy : List ℕ) (labels : Labels) : Type 0 where
   pub labels_are : GivesLabels program policy labels
@@ -61,13 +67,14 @@ pub record IsFirstForm (program : Program) (policy : List ℕ) (labels : Labels)
   pub no_rows : CatchesNothing program labels.entry
   pub plain : IsPlainProgram program labels
 
--- The files of a check are in the first form: nothing refuses them, their classes are linked to this program, to which the
--- policy gives these labels.
+-- The files of a check are in the first form: nothing refuses them, their classes are linked to this program, which is typed and to
+-- which the policy gives these labels.
 pub record IsInput (files : ProgramFiles) (program : Program) (labels : Labels) : Type 0 where
   pub classes : List ClassFile
   pub are_classes : AreClasses files.classes classes
   pub passes : HaveClasses files classes
   pub linked : IsLinked classes program
+  pub typed : IsTypedProgram program
   pub form : IsFirstForm program files.policy labels
 
 -- ---- what it shows
@@ -110,10 +117,11 @@ IsSecureCheck held names status = ⊤
 
 -- ---- what refuses its files
 
--- what refuses a program with a policy: the fault of the policy, or that it is in no form that is built
+-- what refuses a program with a policy: the first fault of typing, else that of the policy, else that it is in no form that is built
 pub data RefusesProgram (program : Program) (policy : List ℕ) : Refusal → Type 0 where
-  of_policy : (refusal : Refusal) → RefusesPolicy program policy refusal → RefusesProgram program policy refusal
-  of_form : (labels : Labels) → GivesLabels program policy labels → (IsFirstForm program policy labels → ⊥)
+  of_typing : (refusal : Refusal) → RefusesTyping program refusal → RefusesProgram program policy refusal
+  of_policy : (refusal : Refusal) → IsTypedProgram program → RefusesPolicy program policy refusal → RefusesProgram program policy refusal
+  of_form : (labels : Labels) → IsTypedProgram program → GivesLabels program policy labels → (IsFormOf program labels → ⊥)
       → RefusesProgram program policy (Input faults.NotBuilt)
 
 -- what refuses the files: in the files themselves, in their classes together, or in the program that they make
@@ -140,14 +148,6 @@ abbrev pub HasShortLimits : Program → ℕ → Type 0
 HasShortLimits program m =
     (code : Code) → code_at program m ≡ Some code → (code.max_stack < 2 ^ 16) × (code.max_locals < 2 ^ 16)
 
--- the entry's code is the only one, catches nothing, and is plain and typed
-pub record IsFormOf (program : Program) (labels : Labels) : Type 0 where
-  pub one_code : HasOneCode program labels.entry
-  pub no_rows : CatchesNothing program labels.entry
-  pub plain : (code : Code) × (code_at program labels.entry ≡ Some code)
-      × IsPlainFrom program labels labels.entry code 0
-  pub typed : IsTyped program labels.entry
-
 -- the decision on a program of the first form
 abbrev pub IsVerdict : Program → Labels → Decision → Type 0
 IsVerdict program labels NotBuilt = ⊥
@@ -163,9 +163,9 @@ IsDecision program labels (Refused text) = IsFormOf program labels × IsReportOf
 -- what a text with a status says of a program and a policy
 abbrev pub IsVerdictOf : Program → List ℕ → Status → List ℕ → Type 0
 IsVerdictOf program policy statuses.Done text =
-    (text ≡ accepted_text) × (labels : Labels) × IsFirstForm program policy labels × IsClean program labels
+    (text ≡ accepted_text) × IsTypedProgram program × (labels : Labels) × IsFirstForm program policy labels × IsClean program labels
 IsVerdictOf program policy statuses.Refused text =
-    (labels : Labels) × IsFirstForm program policy labels × IsReportOf program labels text
+    IsTypedProgram program × (labels : Labels) × IsFirstForm program policy labels × IsReportOf program labels text
 IsVerdictOf program policy status text = ⊥
 
 abbrev pub IsProgramOutcome : Program → List ℕ → Result Answer Stop → Type 0

@@ -1,13 +1,18 @@
--- Why class files and a policy can't be judged, in the order in which it is told: faults of linking, then of the policy
--- (this project's own).
-use Rattle.std.specs.Prelude.{◌≡◌, ℕ, List, [], ◌∷◌, ◌++◌, Option, Some, None, ⊤}
+-- Why class files and a policy can't be judged, in the order in which it is told: faults of linking, then of typing, then of the
+-- policy (this project's own).
+use Rattle.std.specs.Prelude.{◌≡◌, ℕ, ◌<◌, length, List, [], ◌∷◌, ◌++◌, Option, Some, None, ⊤}
 use Rattle.std.specs.Fmt.{decimal}
 use Rattle.toml.specs.Data.{Members}
 use Rattle.jo_text.specs.Escapes.{escaped}
 use Rattle.class_pool.specs.declared.classes.ClassFile.{ClassFile}
 use Rattle.jo_prog.specs.declared.program.Program.{Program}
 use Rattle.jo_prog.specs.declared.labels.Labels.{Labels}
+use Rattle.jo_prog.specs.declared.typed.TypeCode.{TypeCode}
+use Rattle.jo_prog.specs.declared.typed.TypeCode.TheVariants as types
 use Rattle.jo_prog.specs.Spelling.{spelled_method}
+use Rattle.jo_prog.specs.TypingPaths.{IsTypedMethod}
+use Rattle.jvm_typing.specs.declared.programs.MethodFault.{MethodFault}
+use Rattle.jvm_typing.specs.Typings.{IsFirstMethodFault}
 use Rattle.linker.specs.Linking.{linked_classes, program_of}
 use Rattle.linker.specs.LinkOrder.{HasNoFault, IsLinkFault}
 use Rattle.linker.specs.declared.causes.LinkFault.{LinkFault}
@@ -22,6 +27,9 @@ use Rattle.jo_policy.specs.Policies.{IsTree, IsPolicy, IsTextFault}
 use Rattle.joana_base.specs.declared.status.InputFault.TheVariants as faults
 use Rattle.joana_base.specs.declared.status.LinkKind.{LinkKind}
 use Rattle.joana_base.specs.declared.status.LinkKind.TheVariants as link_kinds
+use Rattle.joana_base.specs.declared.status.TypingFault.{TypingFault}
+use Rattle.joana_base.specs.declared.status.TypingKind.{TypingKind}
+use Rattle.joana_base.specs.declared.status.TypingKind.TheVariants as typing_kinds
 use Rattle.joana_base.specs.declared.status.PolicyKind.{PolicyKind}
 use Rattle.joana_base.specs.declared.status.PolicyKind.TheVariants as policy_kinds
 use Rattle.joana_base.specs.declared.status.Refusal.{Refusal}
@@ -51,6 +59,31 @@ link_kind links.Memory = None
 pub data RefusesClasses (classes : List ClassFile) : Refusal → Type 0 where
   of_linking : (fault : LinkFault) (kind : LinkKind) → IsLinkFault classes fault → link_kind fault.code ≡ Some kind
       → RefusesClasses classes (Input (faults.Link kind fault.name))
+
+-- ---- typing
+
+-- no typing path of a method meets a fault
+abbrev pub IsTypedProgram : Program → Type 0
+IsTypedProgram program = (m : ℕ) → m < length program.methods → IsTypedMethod program m
+
+-- the kind of a fault of typing; want of memory is none
+abbrev pub typing_kind : TypeCode → Option TypingKind
+typing_kind types.Underflow = Some typing_kinds.Underflow
+typing_kind types.Overflow = Some typing_kinds.Overflow
+typing_kind types.HeightDiffers = Some typing_kinds.HeightDiffers
+typing_kind types.WrongKind = Some typing_kinds.WrongKind
+typing_kind types.FallsOff = Some typing_kinds.FallsOff
+typing_kind types.LocalRange = Some typing_kinds.LocalRange
+typing_kind types.Memory = None
+
+-- what is told of a method's fault of this kind
+abbrev pub typing_fault : Program → MethodFault → TypingKind → TypingFault
+typing_fault program found kind = record { kind = kind; method = spelled_method program found.method; pc = found.fault.pc }
+
+-- the first fault of the method with the least number that has one
+pub data RefusesTyping (program : Program) : Refusal → Type 0 where
+  of_method : (found : MethodFault) (kind : TypingKind) → IsFirstMethodFault program found → typing_kind found.fault.code ≡ Some kind
+      → RefusesTyping program (Input (faults.Typing (typing_fault program found kind)))
 
 -- ---- the policy
 
@@ -120,7 +153,16 @@ link_stop fault = link_stop_by (link_kind fault.code) fault.name
 abbrev pub IsLinkStop : List ClassFile → Stop → Type 0
 IsLinkStop classes stop = StopsBy (RefusesClasses classes) stop
 
--- what is told of this fault
+-- what is told of this fault of a method
+abbrev pub IsMethodStop : Program → MethodFault → Stop → Type 0
+IsMethodStop program found stop =
+    StopsBy (λ refusal. (kind : TypingKind) × (typing_kind found.fault.code ≡ Some kind)
+    × (refusal ≡ Input (faults.Typing (typing_fault program found kind)))) stop
+
+abbrev pub IsTypingStop : Program → Stop → Type 0
+IsTypingStop program stop = StopsBy (RefusesTyping program) stop
+
+-- what is told of this fault of a policy
 abbrev pub IsPolicyStop : Program → PolicyFault → Stop → Type 0
 IsPolicyStop program fault stop =
     StopsBy (λ refusal. (kind : PolicyKind) × (policy_kind fault ≡ Some kind)

@@ -6,6 +6,8 @@ mod process;
 mod top;
 mod words;
 
-pub use joana_base::{InputFault, LimitKind, LinkKind, OutsideFault, Status};
+pub use joana_base::{
+    InputFault, LimitKind, LinkKind, OutsideFault, Status, TypingFault, TypingKind,
+};
 pub use process::run;
 pub use top::joana;

@@ -9,15 +9,16 @@ ghost use Rattle.joana_base.specs.Reading.{files_change, in_bytes, AfterProgramR
 ghost use Rattle.joana_base.specs.declared.answers.Stop.TheVariants.{Faulty};
 ghost use Rattle.joana_base.specs.declared.status.Refusal.TheVariants.{Input};
 ghost use Rattle.joana_base.specs.declared.status.InputFault.TheVariants.{NotBuilt};
+ghost use Rattle.joana_top.specs.Stops.{IsTypedProgram};
 ghost use Rattle.joana_top.specs.Check.{has_file_code, HasOneCode, CatchesNothing, HasLimits, HasShortLimits, IsFormOf, IsVerdict, IsDecision, IsShown, IsProgramOutcome, IsFilesOutcome, IsCheckOutcome};
 
-use super::stops::{linked, policy_for};
+use super::stops::{linked, policy_for, type_methods};
 use hierarchy::Hierarchy;
 use jo_ids::MethodId;
 use jo_io::Files;
 use jo_policy::laws::policies_label_well;
 use jo_prog::files::is_of_files;
-use jo_prog::jvm_typing;
+use jo_prog::jvm_typing::is_plain;
 use jo_prog::labels::Labels;
 use jo_prog::program::{Method, Program, code_at};
 use joana_base::{
@@ -66,19 +67,16 @@ fn catches_nothing(program: &Program, entry: MethodId) -> bool
 }
 
 /// Whether the program with these labels is of the first form.
-fn is_first_form(alloc: Global, program: &Program, labels: &Labels) -> Result<bool, Memory>
-    ensures { IfOk result (λ yes. IsTrue yes ↔ IsFormOf program.now labels.now) }
+fn is_first_form(program: &Program, labels: &Labels) -> bool
+    ensures { IsTrue result ↔ IsFormOf program.now labels.now }
 {
     if !has_one_code(program, labels.entry) {
-        return Ok(false);
+        return false;
     }
     if !catches_nothing(program, labels.entry) {
-        return Ok(false);
+        return false;
     }
-    if !jvm_typing::is_plain(program, labels) {
-        return Ok(false);
-    }
-    jvm_typing::is_typed(alloc, program, labels)
+    is_plain(program, labels)
 }
 
 /// The limits of a method's code.
@@ -111,12 +109,13 @@ fn verdict(alloc: Global, program: &Program, labels: &Labels) -> Result<Decision
     }
 }
 
-/// The verdict on a program that is well labelled, or that it is in no form that is built.
+/// The verdict on a program that is typed and well labelled, or that it is in no form that is built.
 fn decide(alloc: Global, program: &Program, labels: &Labels) -> Result<Decision, Memory>
-    requires { IsWellLabelled program.now labels.now }
+    requires typed { IsTypedProgram program.now }
+    requires well { IsWellLabelled program.now labels.now }
     ensures { IfOk result (IsDecision program.now labels.now) }
 {
-    if !is_first_form(alloc, program, labels)? {
+    if !is_first_form(program, labels) {
         return Ok(Decision::NotBuilt);
     }
     limits_are_short(program, labels.entry);
@@ -156,6 +155,10 @@ fn check_program(alloc: Global, program: &Program, policy: &[u8]) -> Result<Answ
     let Ok(hierarchy) = Hierarchy::build(alloc, program) else {
         return Err(Stop::Memory);
     };
+    match type_methods(alloc, program, &hierarchy) {
+        Ok(()) => (),
+        Err(stop) => return Err(stop),
+    }
     let policy = match policy_for(alloc, program, &hierarchy, policy) {
         Ok(policy) => policy,
         Err(stop) => return Err(stop),

@@ -1,4 +1,4 @@
-//! Why class files and a policy can't be judged: faults of linking and of the policy.
+//! Why class files and a policy can't be judged: faults of linking, of typing and of the policy.
 ghost use Rattle.std.specs.Prelude.{◌≡◌, ◌++◌, ◌∷◌, ◌<◌, ◌^◌, IfOk, IfErr, OnOk, length};
 ghost use Rattle.std.specs.Fmt.{decimal};
 ghost use Rattle.jo_text.specs.Escapes.{escaped};
@@ -6,7 +6,7 @@ ghost use Rattle.class_pool.specs.declared.classes.ClassFile.{ClassFile};
 ghost use Rattle.jo_prog.specs.Program.{HasNumbers};
 ghost use Rattle.jo_prog.specs.Spelling.{spelled_method};
 ghost use Rattle.hierarchy.specs.Hierarchies.{HasItsParents, IsHierarchyOf};
-ghost use Rattle.joana_top.specs.Stops.{link_kind, link_stop, policy_kind, carried_levels, carried, IsLinked, IsLinkStop, GivesLabels, IsPolicyStop, IsLabelStop};
+ghost use Rattle.joana_top.specs.Stops.{link_kind, link_stop, IsTypedProgram, typing_kind, IsMethodStop, IsTypingStop, policy_kind, carried_levels, carried, IsLinked, IsLinkStop, GivesLabels, IsPolicyStop, IsLabelStop};
 
 use class_pool::ClassFile;
 use hierarchy::Hierarchy;
@@ -14,8 +14,10 @@ use jo_ids::MethodId;
 use jo_policy::{LevelFault, Policy, PolicyFault, read_policy};
 use jo_prog::program::Program;
 use jo_prog::spelling::push_method;
+use jo_prog::typed::TypeCode;
 use jo_text::{Name, push_escaped};
-use joana_base::{InputFault, LinkKind, PolicyKind, Refusal, Stop};
+use joana_base::{InputFault, LinkKind, PolicyKind, Refusal, Stop, TypingFault, TypingKind};
+use jvm_typing::programs::{MethodFault, type_program};
 use linker::{LinkCode, LinkFault, link};
 use std::alloc::{AllocError as Memory, Global};
 
@@ -57,6 +59,65 @@ pub fn linked(alloc: Global, classes: Vec<ClassFile>) -> Result<Program, Stop>
     match link(alloc, classes) {
         Ok(program) => Ok(program),
         Err(fault) => Err(link_stop(fault)),
+    }
+}
+
+// ---- typing
+
+/// The kind of a fault. Want of memory is none.
+fn typing_kind(code: TypeCode) -> Option<TypingKind>
+    ensures { result ≡ typing_kind code }
+{
+    match code {
+        TypeCode::Underflow => Some(TypingKind::Underflow),
+        TypeCode::Overflow => Some(TypingKind::Overflow),
+        TypeCode::HeightDiffers => Some(TypingKind::HeightDiffers),
+        TypeCode::WrongKind => Some(TypingKind::WrongKind),
+        TypeCode::FallsOff => Some(TypingKind::FallsOff),
+        TypeCode::LocalRange => Some(TypingKind::LocalRange),
+        TypeCode::Memory => None,
+    }
+}
+
+/// A method as it is spelled.
+fn spelling_of(alloc: Global, program: &Program, method: MethodId) -> Result<Name, Memory>
+    ensures { IfOk result (λ name. name ≡ spelled_method program.now method) }
+{
+    let mut text = Vec::new(alloc);
+    push_method(&mut text, program, method)?;
+    Ok(Name::from(text))
+}
+
+/// The stop at a program with that fault of a method.
+fn method_stop(alloc: Global, program: &Program, found: &MethodFault) -> Stop
+    ensures { IsMethodStop program.now found.now result }
+{
+    let kind = match typing_kind(found.fault.code) {
+        Some(kind) => kind,
+        None => return Stop::Memory,
+    };
+    match spelling_of(alloc, program, found.method) {
+        Ok(method) => Stop::Faulty(Refusal::Input(InputFault::Typing(TypingFault {
+            kind,
+            method,
+            pc: found.fault.pc,
+        }))),
+        Err(_) => Stop::Memory,
+    }
+}
+
+/// Types the methods of the program. What stops it is the first fault of the method with the least number.
+pub fn type_methods(alloc: Global, program: &Program, hierarchy: &Hierarchy) -> Result<(), Stop>
+    requires kept { IsHierarchyOf program.now hierarchy.now }
+    requires few_classes { length program.now.classes < 2 ^ 32 }
+    requires few { length program.now.methods < 2 ^ 32 }
+    ensures typed { IfOk result (λ _. IsTypedProgram program.now) }
+    ensures stop { IfErr result (IsTypingStop program.now) }
+{
+    let typings = type_program(alloc, program, hierarchy);
+    match &typings {
+        Ok(_) => Ok(()),
+        Err(found) => Err(method_stop(alloc, program, found)),
     }
 }
 
