@@ -1,5 +1,5 @@
 -- What the parts of the decision say of the first form.
-use Rattle.std.proofs.Common.{◌≡◌, ◌∙◌, ℕ, ◌<◌, ◌^◌, Bool, true, false, cond, nat_lt, List, length, get_or, Option, Some, None, slice_get, refl, sym, ap, subst}
+use Rattle.std.proofs.Common.{◌≡◌, ◌∙◌, ℕ, ◌<◌, ◌^◌, Bool, true, false, cond, nat_lt, List, length, get_or, Option, Some, None, slice_get, refl, sym, ap}
 use Rattle.std.proofs.lemmas.Bool.{ltb-true}
 use Rattle.std.proofs.lemmas.Option.{none-some, slice_get_read, slice_get_within, same_Some}
 use Rattle.jo_insn.specs.Instructions.{decoded}
@@ -8,7 +8,7 @@ use Rattle.jo_prog.specs.declared.program.Code.{Code}
 use Rattle.jo_prog.specs.declared.labels.Labels.{Labels}
 use Rattle.jo_prog.specs.declared.operations.Operation.{Operation}
 use Rattle.jo_prog.specs.declared.operations.Operation.TheVariants.{Return}
-use Rattle.jo_prog.specs.Program.{code_at, as_operation, operation_in, operation_at}
+use Rattle.jo_prog.specs.Program.{as_operation, operation_in, operation_at}
 use Rattle.jo_prog.specs.PlainCode.{IsWellLabelled, IsPlainProgram, IsPlainFrom, last, then}
 use Rattle.plain_graph.specs.Building.{HasShortCode}
 use Rattle.joana_top.specs.Stops.{IsTypedProgram, GivesLabels}

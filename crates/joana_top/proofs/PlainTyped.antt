@@ -1,10 +1,10 @@
 -- Plain code that catches nothing is typed as plain code where its method is typed: its one path is a typing path, and meets no
 -- fault.
-use Rattle.std.proofs.Common.{◌≡◌, ◌⊎◌, inl, inr, ◌∙◌, ℕ, zero, suc, ◌<◌, ◌≤◌, ◌^◌, ◌+◌, ◌-◌, Bool, true, false, not, ◌&&◌, ◌||◌, cond, nat_lt, nat_le, List, [], ◌∷◌, ◌++◌, length, map, drop, take, replicate, set, get_or, Contains, Option, Some, None, refl, sym, ap, subst, arith, length-append, length-drop, length-set}
+use Rattle.std.proofs.Common.{◌≡◌, ◌⊎◌, inl, inr, ◌∙◌, ℕ, zero, suc, ◌<◌, ◌≤◌, ◌^◌, ◌+◌, ◌-◌, Bool, true, false, not, ◌&&◌, ◌||◌, cond, nat_lt, List, [], ◌∷◌, ◌++◌, length, map, drop, take, replicate, Contains, Option, Some, None, refl, sym, ap, subst, arith, length-append, length-drop, length-set}
 use Rattle.std.specs.Prelude.{◌==◌, ℤ, pos, nat_abs, ◌+ℤ◌, ◌-ℤ◌, is_some, Result, Ok, Err, IsSome, option_and_then, option_map, slice_get, slice_index_or, slice_set, codes, ⊤}
 use Rattle.std.specs.List.{AllByRecursion, list_any}
 use Rattle.std.specs.Str.{bytes_eq}
-use Rattle.std.proofs.lemmas.Bool.{false≢true, and_parts, or_parts, or_from, not-false, not-true, false_from_ne_true, cases_order, cases_lt, eqb-true, ltb-true, ltb-false, leb-true, or_cases}
+use Rattle.std.proofs.lemmas.Bool.{false≢true, and_parts, or_parts, or_from, not-false, false_from_ne_true, cases_order, cases_lt, eqb-true, ltb-true, ltb-false, or_cases}
 use Rattle.std.proofs.lemmas.Bool.Decides.{nat_tests}
 use Rattle.std.proofs.lemmas.List.{length-map, length-replicate, take-replicate}
 use Rattle.std.proofs.lemmas.Option.{none-some, same_Some, some_pair_parts}
@@ -37,14 +37,14 @@ use Rattle.jo_prog.specs.declared.typed.TypeCode.{TypeCode}
 use Rattle.jo_prog.specs.declared.typed.TypeCode.TheVariants.{Underflow, Overflow, WrongKind, FallsOff, LocalRange}
 use Rattle.jo_prog.specs.Labels.{label_of, label_among}
 use Rattle.jo_prog.specs.Operations.{within, operation_of}
-use Rattle.jo_prog.specs.Program.{method_at, class_at, code_at, as_operation, operation_in, operation_at, callee_of, callee_at, operand_at, has_signature, first_with, resolve, resolve_owned, resolve_operand}
+use Rattle.jo_prog.specs.Program.{method_at, class_at, code_at, as_operation, operation_in, operation_at, callee_of, callee_at, operand_at, has_signature, first_with, resolve_owned, resolve_operand}
 use Rattle.jo_prog.specs.Types.{array_of}
 use Rattle.jo_prog.specs.MethodTypes.{method_desc_in, params_from}
-use Rattle.jo_prog.specs.PlainCode.{IsLabelledNative, IsWellLabelled, IsEntry, desc_for, is_entry_desc, is_source_or_sink, calls_labelled, goes_on, IsPlainFrom, last, then}
-use Rattle.jo_prog.specs.Shapes.{Need, AnInt, Origin, Always, Effect, after, kind_from, passes, all_pass}
-use Rattle.jo_prog.specs.InsnTyping.{stack_effect, pushes_int, wrong_effect, loads_int, stores_int, result_kind, plain_effect, local_effect, named_effect, call_effect as call_effect_by, effect_of, as_placed, insn_at, falls_through, successors, is_inside, receiver_kinds, param_kinds, locals_at_start, shape_at_start as start_of}
-use Rattle.jo_prog.specs.Typing.{Kind, Int, Null, Ref, Unset, Shape, After, shape_at_start, with_stack, pop_ints, push_ints, exchange, exchange_by, loaded, stored, call_effect, call_effect_of, shape_after, typed_at, Arrives, at_start, by_step, IsTypedCode}
-use Rattle.jo_prog.specs.TypingPaths.{Typable, effect_in, effect_at, leads_outside, handler_outside, catches_wrong, successors_at, is_covered, underflows, height_after, overflows, falls_off, is_local, is_written_local, out_of_range, local_passes, wrong_kind, Step, arrives_at, shape_of, height_of, IsLess, IsPlainAlone, pcs_of, handlers_of, IsBefore, shorter, by_pcs, by_rows, IsFirst, ends_at, GoesOn, IsHandler, TakesStep, Prolongs, PathWithin, TypingPath, MeetsAtEnd, MeetsFault, IsTypedMethod}
+use Rattle.jo_prog.specs.PlainCode.{IsLabelledNative, IsWellLabelled, desc_for, is_entry_desc, is_source_or_sink, calls_labelled, goes_on, IsPlainFrom, last, then}
+use Rattle.jo_prog.specs.Shapes.{AnInt, Always, Effect, after, kind_from, passes, all_pass}
+use Rattle.jo_prog.specs.InsnTyping.{stack_effect, wrong_effect, loads_int, stores_int, result_kind, plain_effect, named_effect, call_effect as call_effect_by, effect_of, as_placed, insn_at, falls_through, successors, is_inside, receiver_kinds, param_kinds, locals_at_start}
+use Rattle.jo_prog.specs.Typing.{Kind, Int, Null, Ref, Unset, Shape, After, with_stack, pop_ints, push_ints, exchange, exchange_by, loaded, stored, call_effect, call_effect_of, shape_after, typed_at, Arrives, at_start, by_step, IsTypedCode}
+use Rattle.jo_prog.specs.TypingPaths.{Typable, effect_in, effect_at, leads_outside, handler_outside, catches_wrong, successors_at, is_covered, underflows, height_after, overflows, falls_off, is_local, is_written_local, out_of_range, local_passes, wrong_kind, Step, arrives_at, shape_of, height_of, IsLess, IsPlainAlone, pcs_of, handlers_of, IsBefore, shorter, by_pcs, by_rows, ends_at, TakesStep, PathWithin, TypingPath, MeetsAtEnd, IsTypedMethod}
 use Rattle.jo_prog.proofs.Decoding.{operation_at-next, callee_at-found}
 use Rattle.jo_prog.proofs.TypingPaths.{one_height, typed_at-leads, leads_on-return, leads_on-next_pc}
 
