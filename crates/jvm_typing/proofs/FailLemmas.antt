@@ -1,17 +1,21 @@
 -- Faults of kinds, as they are added to a list.
-use Rattle.std.proofs.Common.{◌≡◌, ℕ, true, false, List, length, Option, None, ap}
+use Rattle.std.proofs.Common.{◌≡◌, ℕ, true, false, List, length, Option, None, refl, sym, ◌∙◌, ap}
 use Rattle.std.specs.Prelude.{is_some}
 use Rattle.jo_prog.specs.declared.program.Program.{Program}
 use Rattle.jo_prog.specs.declared.typed.TypeFault.{TypeFault}
 use Rattle.jo_prog.specs.TypingPaths.{Typable, effect_at}
 use Rattle.jvm_typing.specs.declared.facts.Fact.{Fact}
+use Rattle.jvm_typing.specs.declared.kind_faults.Asked.{Asked}
 use Rattle.typing_heights.specs.Adds.{Adds, From, FromBelow}
 use Rattle.typing_effects.specs.Kinds.{kind_in}
-use Rattle.jvm_typing.specs.KindFaults.{place_fails, is_wrong, kind_fault, FailsBy, WrongAt, IsKindFault}
+use Rattle.jvm_typing.specs.KindFaults.{place_fails, is_wrong, kind_fault, FailsBy, IsAskedAt, WrongAt, IsKindFault}
 use Rattle.typing_heights.specs.Searches.{height_at}
 use Rattle.typing_heights.proofs.AddsLemmas.{adds_none, adds_alike, adds_more}
 
 module _ (program : Program) (t : Typable) where
+  pub asks_there : (pc : ℕ) (asked : Asked) → IsAskedAt program t pc asked → IsAskedAt program t asked.pc asked
+  asks_there pc asked is = record { at_pc = refl; same_effect = is.same_effect ∙ ap (effect_at program t) (sym is.at_pc) }
+
   pub not_failing : (S : TypeFault → Type 0) (fact : Fact) → place_fails program t.code.max_locals (effect_at program t fact.pc) fact.place (kind_in fact.kind) ≡ false → Adds S S (FailsBy program t fact)
   not_failing S fact e = adds_none S (FailsBy program t fact) (λ f h. absurd (let g = h.0 in cc))
 

@@ -1,16 +1,15 @@
--- Lists that grow by what is not there yet.
-use Rattle.std.proofs.Common.{◌≡◌, ◌↔◌, ◌⊎◌, ℕ, zero, suc, ◌+◌, ◌<◌, ◌≤◌, Bool, true, false, ◌||◌, List, [], ◌∷◌, ◌++◌, length, get_or, take, map, Contains, refl, sym, ◌∙◌, ap, subst, inl, inr, arith}
-use Rattle.std.proofs.lemmas.List.{take_more, take_all}
-use Rattle.std.proofs.lemmas.List.Elements.{Contains-append_left, Contains-push_cases}
-use Rattle.jo_prog.specs.declared.program.Program.{Program}
+-- Lists of facts that grow.
+use Rattle.std.proofs.Common.{◌≡◌, ◌↔◌, ◌⊎◌, ℕ, zero, suc, ◌+◌, ◌<◌, ◌≤◌, List, [], ◌∷◌, ◌++◌, length, get_or, take, map, Contains, Some, None, refl, sym, ◌∙◌, ap, subst, inl, inr, arith}
+use Rattle.std.specs.Prelude.{slice_get}
+use Rattle.std.specs.List.Sorted.{IsPermutation}
+use Rattle.std.proofs.lemmas.List.Sorted.{Contains-permutation, IsPermutation-sym}
+use Rattle.std.proofs.lemmas.List.Elements.{Contains-get_or}
+use Rattle.std.proofs.lemmas.Option.{slice_get_within, get_or_from_slice_get}
 use Rattle.jo_prog.specs.Typing.{Kind}
-use Rattle.jo_prog.specs.Shapes.{Change, changed}
 use Rattle.jvm_typing.specs.declared.facts.Fact.{Fact}
-use Rattle.typing_effects.specs.declared.kinds.Kind.{Kind as KindHere}
-use Rattle.typing_heights.specs.Adds.{Adds, From}
-use Rattle.typing_effects.specs.Kinds.{kind_in}
-use Rattle.jvm_typing.specs.KindPasses.{Item, item_in, items_of, Grows, Brings, Fixed, FromPlace, Turned, HeldBy}
-use Rattle.typing_heights.proofs.AddsLemmas.{from_none, from_more, adds_none, adds_alike, adds_pushed, adds_all}
+use Rattle.typing_heights.specs.Adds.{From, FromBelow}
+use Rattle.jvm_typing.specs.KindPasses.{Item, item_in, items_of, Grows}
+use Rattle.typing_heights.proofs.AddsLemmas.{adds_none, adds_alike, adds_pushed, over_more, over_all, below_step}
 
 pub map_push : {A B : Type 0} (f : A → B) (xs : List A) (x : A) → map f (xs ++ x ∷ []) ≡ map f xs ++ f x ∷ []
 map_push f [] x = refl
@@ -28,85 +27,23 @@ from_map f (x ∷ xs) y (suc k, b, e) =
     let r = from_map f xs y (k, (let l = b in omega arith), e) in
     let c = r.1 in (r.0, (suc c.0, (let l = c.1 in omega arith), c.2), r.2)
 
-pub grows_known : (facts : List Fact) (fact : Fact) → Contains facts fact → Grows (λ (x : Item). x ≡ item_in fact) (items_of facts) (items_of facts) false
-grows_known facts fact among = record {
-  kept = λ x c. c;
-  sound = λ x c. inl c;
-  still = λ e. refl;
-  full = λ e x is. subst (λ (y : Item). Contains (items_of facts) y) (sym is) (contains_map item_in facts fact among);
-}
+pub contains_at : {A : Type 0} (xs : List A) (n : ℕ) (x : A) → slice_get xs n ≡ Some x → Contains xs x
+contains_at xs n x found = subst (λ y. Contains xs y) (get_or_from_slice_get xs n x x found) (Contains-get_or xs n x (slice_get_within xs n x found))
 
-pub grows_new : (facts new : List Fact) (fact : Fact) → new ≡ facts ++ fact ∷ [] → Grows (λ (x : Item). x ≡ item_in fact) (items_of facts) (items_of new) true
-grows_new facts new fact made = record {
-  kept = λ x c. subst (λ (l : List Item). Contains l x) (sym (ap items_of made ∙ map_push item_in facts fact)) (Contains-append_left (items_of facts) (item_in fact ∷ []) x c);
-  sound = λ x c. elim (Contains-push_cases (items_of facts) (item_in fact) x (subst (λ (l : List Item). Contains l x) (ap items_of made ∙ map_push item_in facts fact) c)) [
-    | inl before ↦ inl before
-    | inr last ↦ inr (sym last)
-  ];
-  still = λ e. absurd (cc);
-  full = λ e. absurd (cc);
-}
+pub number_of : {A : Type 0} (xs : List A) (x : A) → Contains xs x → (n : ℕ) × (slice_get xs n ≡ Some x)
+number_of [] x c = absurd (let b = c.1 in omega arith)
+number_of (y ∷ xs) x (zero, b, e) = (0, ap Some e)
+number_of (y ∷ xs) x (suc k, b, e) = let r = number_of xs x (k, (let l = b in omega arith), e) in (suc r.0, r.1)
 
-pub grows_none : (W : Item → Type 0) (old : List Item) → ((x : Item) → W x → ⊥) → Grows W old old false
-grows_none W old never = record { kept = λ x c. c; sound = λ x c. inl c; still = λ e. refl; full = λ e x w. absurd (never x w) }
+pub none_past : {A : Type 0} (xs : List A) (k : ℕ) → slice_get xs k ≡ None → length xs ≤ k
+none_past [] k e = omega arith
+none_past (x ∷ xs) zero e = absurd (cc)
+none_past (x ∷ xs) (suc k) e = let r = none_past xs k e in omega arith
 
-pub or_both : (a b : Bool) → (a || b) ≡ false → (a ≡ false) × (b ≡ false)
-or_both true b e = absurd (cc)
-or_both false b e = (refl, e)
-
-pub grows_more : (V W U : Item → Type 0) (old mid new : List Item) (a b : Bool) → Grows V old mid a → Grows W mid new b → ((x : Item) → U x ↔ (V x ⊎ W x)) → Grows U old new (a || b)
-grows_more V W U old mid new a b first second sum = record {
-  kept = λ x c. second.kept x (first.kept x c);
-  sound = λ x c. later x (second.sound x c);
-  still = λ e. (let f = or_both a b e in second.still f.1 ∙ first.still f.0);
-  full = λ e x u. (let f = or_both a b e in whole f.0 f.1 x ((sum x).0 u));
-}
-  where
-    early : (x : Item) → Contains old x ⊎ V x → Contains old x ⊎ U x
-    early x (inl c) = inl c
-    early x (inr v) = inr ((sum x).1 (inl v))
-
-    later : (x : Item) → Contains mid x ⊎ W x → Contains old x ⊎ U x
-    later x (inl c) = early x (first.sound x c)
-    later x (inr w) = inr ((sum x).1 (inr w))
-
-    whole : a ≡ false → b ≡ false → (x : Item) → V x ⊎ W x → Contains old x
-    whole f g x (inl v) = first.full f x v
-    whole f g x (inr w) = subst (λ (l : List Item). Contains l x) (first.still f) (second.full g x w)
-
-pub grows_alike : (V W : Item → Type 0) (old new : List Item) (a : Bool) → Grows V old new a → ((x : Item) → W x ↔ V x) → Grows W old new a
-grows_alike V W old new a grows alike = record {
-  kept = grows.kept;
-  sound = λ x c. there x (grows.sound x c);
-  still = grows.still;
-  full = λ e x w. grows.full e x ((alike x).0 w);
-}
-  where
-    there : (x : Item) → Contains old x ⊎ V x → Contains old x ⊎ W x
-    there x (inl c) = inl c
-    there x (inr v) = inr ((alike x).1 v)
-
--- ---- over the kinds of a place
-
-module _ (kinds : List KindHere) (makes : KindHere → Item → Type 0) where
-  pub kinds_none : (old : List Item) → Grows (From [] makes) old old false
-  kinds_none old = grows_none (From [] makes) old (from_none makes)
-
-  pub kinds_more : (old mid new : List Item) (i : ℕ) (d kind : KindHere) (a b : Bool) → i < length kinds → kind ≡ get_or kinds i d → Grows (From (take i kinds) makes) old mid a → Grows (makes kind) mid new b
-      → Grows (From (take (i + 1) kinds) makes) old new (a || b)
-  kinds_more old mid new i d kind a b below is first second =
-      subst (λ (l : List KindHere). Grows (From l makes) old new (a || b)) (sym (take_more kinds i d below))
-      (grows_more (From (take i kinds) makes) (makes (get_or kinds i d)) (From (take i kinds ++ get_or kinds i d ∷ []) makes) old mid new a b first
-      (subst (λ (k : KindHere). Grows (makes k) mid new b) is second) (from_more (take i kinds) (get_or kinds i d) makes))
-
-  pub kinds_item : (old mid new : List Item) (i : ℕ) (kind : KindHere) (a b : Bool) → i < length kinds → kind ≡ get_or kinds i kind → Grows (From (take i kinds) makes) old mid a → Grows (makes kind) mid new b
-      → Grows (From (take (i + 1) kinds) makes) old new (a || b)
-  kinds_item old mid new i kind a b below is first second = kinds_more old mid new i kind kind a b below is first second
-
-  pub kinds_all : (old new : List Item) (i : ℕ) (a : Bool) → length kinds ≤ i → Grows (From (take i kinds) makes) old new a → Grows (From kinds makes) old new a
-  kinds_all old new i a past grows = subst (λ (l : List KindHere). Grows (From l makes) old new a) (take_all i kinds past) grows
-
--- ---- what a source brings
+stays_push : (xs : List Item) (y : Item) (k : ℕ) (x : Item) → slice_get xs k ≡ Some x → slice_get (xs ++ y ∷ []) k ≡ Some x
+stays_push [] y k x e = absurd (cc)
+stays_push (z ∷ xs) y zero x e = e
+stays_push (z ∷ xs) y (suc k) x e = stays_push xs y k x e
 
 pub item_is : (x : Item) (pc place : ℕ) (kind : Kind) → x.pc ≡ pc → x.place ≡ place → x.kind ≡ kind → x ≡ record { pc = pc; place = place; kind = kind }
 item_is x pc place kind e f g =
@@ -115,56 +52,53 @@ item_is x pc place kind e f g =
     let s3 : ◌≡◌ {A = Item} (record { pc = pc; place = place; kind = x.kind }) (record { pc = pc; place = place; kind = kind }) = ap (λ y. record { pc = pc; place = place; kind = y }) g in
     s1 ∙ s2 ∙ s3
 
-pub brings_fixed : (program : Program) (items old new : List Item) (from to place : ℕ) (kind : Kind) (a : Bool) → Grows (λ (x : Item). x ≡ record { pc = to; place = place; kind = kind }) old new a
-    → Grows (Brings program items from to place (Fixed kind)) old new a
-brings_fixed program items old new from to place kind a grows = grows_alike (λ (x : Item). x ≡ record { pc = to; place = place; kind = kind }) (Brings program items from to place (Fixed kind)) old new a grows (λ x. (there x, back x))
+-- ---- one fact
+
+pub grows_known : (facts : List Fact) (fact : Fact) → Contains facts fact → Grows (λ (x : Item). x ≡ item_in fact) (items_of facts) (items_of facts)
+grows_known facts fact among = record { stays = λ k x e. e; adds = λ x. (λ c. inl c, there x) }
   where
-    there : (x : Item) → Brings program items from to place (Fixed kind) x → x ≡ record { pc = to; place = place; kind = kind }
-    there x b = item_is x to place kind b.at_pc b.at_place b.gives
+    there : (x : Item) → Contains (items_of facts) x ⊎ (x ≡ item_in fact) → Contains (items_of facts) x
+    there x (inl c) = c
+    there x (inr e) = subst (λ (y : Item). Contains (items_of facts) y) (sym e) (contains_map item_in facts fact among)
 
-    back : (x : Item) → x ≡ record { pc = to; place = place; kind = kind } → Brings program items from to place (Fixed kind) x
-    back x e = subst (Brings program items from to place (Fixed kind)) (sym e) (record { at_pc = refl; at_place = refl; gives = refl })
+pub grows_new : (facts new : List Fact) (fact : Fact) → new ≡ facts ++ fact ∷ [] → Grows (λ (x : Item). x ≡ item_in fact) (items_of facts) (items_of new)
+grows_new facts new fact made =
+    let is = ap items_of made ∙ map_push item_in facts fact in
+    record {
+      stays = λ k x e. subst (λ (l : List Item). slice_get l k ≡ Some x) (sym is) (stays_push (items_of facts) (item_in fact) k x e);
+      adds = adds_pushed (items_of facts) (items_of new) (item_in fact) is;
+    }
 
-pub brings_from : (program : Program) (items old new : List Item) (from to place before : ℕ) (change : Change) (kinds : List KindHere) (a : Bool)
-    → ((kind : Kind) → Contains (map kind_in kinds) kind ↔ Contains items (record { pc = from; place = before; kind = kind }))
-    → Grows (From kinds (Turned program to place change)) old new a → Grows (Brings program items from to place (FromPlace before change)) old new a
-brings_from program items old new from to place before change kinds a exact grows =
-    grows_alike (From kinds (Turned program to place change)) (Brings program items from to place (FromPlace before change)) old new a grows (λ x. (there x, back x))
+-- ---- more of them
+
+pub grows_none : (W : Item → Type 0) (old : List Item) → ((x : Item) → W x → ⊥) → Grows W old old
+grows_none W old never = record { stays = λ k x e. e; adds = adds_none (Contains old) W never }
+
+pub grows_alike : (V W : Item → Type 0) (old new : List Item) → Grows V old new → ((x : Item) → V x ↔ W x) → Grows W old new
+grows_alike V W old new grows alike = record { stays = grows.stays; adds = adds_alike (Contains old) (Contains new) V W grows.adds alike }
+
+module _ {A : Type 0} (xs : List A) (makes : A → Item → Type 0) where
+  pub grows_over : (start old new : List Item) (i : ℕ) (d : A) → i < length xs → Grows (From (take i xs) makes) start old → Grows (makes (get_or xs i d)) old new → Grows (From (take (i + 1) xs) makes) start new
+  grows_over start old new i d below first second = record {
+    stays = λ k x e. second.stays k x (first.stays k x e);
+    adds = over_more xs makes (Contains start) (Contains old) (Contains new) i d below first.adds second.adds;
+  }
+
+  pub grows_all : (start new : List Item) (i : ℕ) → length xs ≤ i → Grows (From (take i xs) makes) start new → Grows (From xs makes) start new
+  grows_all start new i past grows = record { stays = grows.stays; adds = over_all xs makes (Contains start) (Contains new) i past grows.adds }
+
+pub grows_below : (start old new : List Item) (n : ℕ) (makes : ℕ → Item → Type 0) → Grows (FromBelow n makes) start old → Grows (makes n) old new → Grows (FromBelow (n + 1) makes) start new
+grows_below start old new n makes first second = record {
+  stays = λ k x e. second.stays k x (first.stays k x e);
+  adds = below_step (Contains start) (Contains old) (Contains new) n makes first.adds second.adds;
+}
+
+-- ---- in another order
+
+pub same_items : (xs ys : List Fact) → IsPermutation xs ys → (x : Item) → Contains (items_of ys) x ↔ Contains (items_of xs) x
+same_items xs ys moved x = (there xs ys moved, there ys xs (IsPermutation-sym xs ys moved))
   where
-    there : (x : Item) → Brings program items from to place (FromPlace before change) x → From kinds (Turned program to place change) x
-    there x b =
-        let g = b.gives in
-        let k = from_map kind_in kinds g.0 ((exact g.0).1 g.1) in
-        (k.0, k.1, item_is x to place (changed program change (kind_in k.0)) b.at_pc b.at_place (g.2 ∙ ap (changed program change) (sym k.2)))
-
-    back : (x : Item) → From kinds (Turned program to place change) x → Brings program items from to place (FromPlace before change) x
-    back x (kind, among, is) = subst (Brings program items from to place (FromPlace before change)) (sym is) (record {
-      at_pc = refl;
-      at_place = refl;
-      gives = (kind_in kind, (exact (kind_in kind)).0 (contains_map kind_in kinds kind among), refl);
-    })
-
--- ---- the kinds of a place
-
-pub held_not : (S : Kind → Type 0) (fact : Fact) (pc place : ℕ) → (fact.pc ≡ pc → fact.place ≡ place → ⊥) → Adds S S (HeldBy fact pc place)
-held_not S fact pc place never = adds_none S (HeldBy fact pc place) (λ kind h. never h.0 h.1)
-
-pub held_added : (xs ys : List KindHere) (fact : Fact) (pc place : ℕ) (kind : KindHere) → fact.pc ≡ pc → fact.place ≡ place → kind ≡ fact.kind → ys ≡ xs ++ kind ∷ []
-    → Adds (Contains (map kind_in xs)) (Contains (map kind_in ys)) (HeldBy fact pc place)
-held_added xs ys fact pc place kind at_pc at_place same made =
-    adds_alike (Contains (map kind_in xs)) (Contains (map kind_in ys)) (λ k. k ≡ kind_in kind) (HeldBy fact pc place)
-    (adds_pushed (map kind_in xs) (map kind_in ys) (kind_in kind) (ap (λ l. map kind_in l) made ∙ map_push kind_in xs kind)) (λ k. (λ e. (at_pc, at_place, e ∙ ap kind_in same), λ h. h.2 ∙ ap kind_in (sym same)))
-
-pub kinds_exact : (facts : List Fact) (pc place : ℕ) (kinds : List Kind) → Adds (Contains {X = Kind} []) (Contains kinds) (From facts (λ (fact : Fact) (kind : Kind). HeldBy fact pc place kind))
-    → (kind : Kind) → Contains kinds kind ↔ Contains (items_of facts) (record { pc = pc; place = place; kind = kind })
-kinds_exact facts pc place kinds adds kind =
-    let each = adds_all kinds (From facts (λ (fact : Fact) (k : Kind). HeldBy fact pc place k)) adds kind in (λ among. there (each.0 among), λ c. each.1 (back c))
-  where
-    there : From facts (λ (fact : Fact) (k : Kind). HeldBy fact pc place k) kind → Contains (items_of facts) (record { pc = pc; place = place; kind = kind })
-    there (fact, among, h) =
-        subst (λ (x : Item). Contains (items_of facts) x) (item_is (item_in fact) pc place kind h.0 h.1 (sym h.2)) (contains_map item_in facts fact among)
-
-    back : Contains (items_of facts) (record { pc = pc; place = place; kind = kind }) → From facts (λ (fact : Fact) (k : Kind). HeldBy fact pc place k) kind
-    back c =
-        let r = from_map item_in facts (record { pc = pc; place = place; kind = kind }) c in
-        (r.0, r.1, (ap (λ (x : Item). x.pc) r.2, ap (λ (x : Item). x.place) r.2, ap (λ (x : Item). x.kind) (sym r.2)))
+    there : (first second : List Fact) → IsPermutation first second → Contains (items_of second) x → Contains (items_of first) x
+    there first second moved among =
+        let r = from_map item_in second x among in
+        subst (λ (y : Item). Contains (items_of first) y) r.2 (contains_map item_in first r.0 (Contains-permutation second first r.0 (IsPermutation-sym first second moved) r.1))

@@ -1,5 +1,5 @@
 -- What is found of kinds is what typing paths bring.
-use Rattle.std.proofs.Common.{◌≡◌, ◌↔◌, ℕ, ◌+◌, ◌<◌, List, [], ◌∷◌, ◌++◌, length, get_or, replicate, Option, Some, None, Contains, refl, sym, ◌∙◌, ap, subst, arith, append-nil}
+use Rattle.std.proofs.Common.{◌≡◌, ℕ, ◌+◌, ◌<◌, List, [], ◌∷◌, ◌++◌, length, get_or, replicate, Option, Some, None, Contains, refl, sym, ◌∙◌, ap, subst, arith, append-nil}
 use Rattle.std.specs.Prelude.{slice_get}
 use Rattle.std.proofs.lemmas.List.{length-set, length-append, length-replicate, length-take-le}
 use Rattle.std.proofs.lemmas.Option.{slice_get-get_or, slice_get_within, get_or_from_slice_get}
@@ -125,17 +125,17 @@ module _ (program : Program) (t : Typable) (heights : List (Option ℕ)) (are : 
 
   -- ---- what holds is found
 
-  pub found_all : (items : List Item) (moves : List Move) → ((m : Move) → Contains moves m ↔ IsMove program t heights m) → ((x : Item) → Starts program t x → Contains items x) → ClosedFor program t heights moves items
+  pub found_all : (items : List Item) → ((x : Item) → Starts program t x → Contains items x) → ClosedFor program t heights items
       → (path : List Step) → TypingPath program t path → height_at heights (arrives_at path) ≡ Some (height_of program t path)
       → (place : ℕ) (kind : Kind) → slice_get (flat (shape_of program t path)) place ≡ Some kind → Contains items (record { pc = arrives_at path; place = place; kind = kind })
-  found_all items moves exact starts closed [] is has place kind at =
+  found_all items starts closed [] is has place kind at =
       starts (record { pc = 0; place = place; kind = kind }) (refl, subst (λ (l : List Kind). slice_get l place ≡ Some kind) (append-nil (shape_of program t []).locals) at)
-  found_all items moves exact starts closed (step ∷ path) is has place kind at =
+  found_all items starts closed (step ∷ path) is has place kind at =
       let p = back program t step path is in
       let before = has_its_height program t heights are path p.goes_on in
       let height = height_of program t path in
       let m : Move = record { from = arrives_at path; row = step.row; to = step.pc; height = height_of program t (step ∷ path) } in
-      let among = (exact m).1 (is_move program t heights are step path p) in
+      let among = is_move program t heights are step path p in
       let long = slice_get_within (flat (shape_of program t (step ∷ path))) place kind at in
       let below : place < t.code.max_locals + m.height = (let e = flat_long program t (step ∷ path) in omega arith) in
       let low = subst (λ (h : ℕ). place < t.code.max_locals + h) (height_stepped program t path step p.takes) below in
@@ -146,7 +146,7 @@ module _ (program : Program) (t : Typable) (heights : List (Option ℕ)) (are : 
         at_place = refl;
         gives =
             by_source (step_source program t m height place) kind
-            (λ q k here. found_all items moves exact starts closed path p.is_path before q k here)
+            (λ q k here. found_all items starts closed path p.is_path before q k here)
             (comes.same ∙ kind_is) comes.there;
       })
     where
@@ -160,11 +160,11 @@ module _ (program : Program) (t : Typable) (heights : List (Option ℕ)) (are : 
             sym same,
           )
 
-  pub are_kinds : (items : List Item) (moves : List Move) → ((m : Move) → Contains moves m ↔ IsMove program t heights m) → ((x : Item) → Contains items x → Holds program t heights x)
-      → ((x : Item) → Starts program t x → Contains items x) → ClosedFor program t heights moves items → AreKinds program t heights items
-  are_kinds items moves exact sound starts closed x = (sound x, back_to)
+  pub are_kinds : (items : List Item) → ((x : Item) → Contains items x → Holds program t heights x)
+      → ((x : Item) → Starts program t x → Contains items x) → ClosedFor program t heights items → AreKinds program t heights items
+  are_kinds items sound starts closed x = (sound x, back_to)
     where
       back_to : Holds program t heights x → Contains items x
       back_to h =
           let has : height_at heights (arrives_at h.path) ≡ Some (height_of program t h.path) = ap (height_at heights) h.arrives ∙ h.same_height in
-          subst (λ (y : Item). Contains items y) (sym (item_is x (arrives_at h.path) x.place x.kind (sym h.arrives) refl refl)) (found_all items moves exact starts closed h.path h.is_path has x.place x.kind h.holds)
+          subst (λ (y : Item). Contains items y) (sym (item_is x (arrives_at h.path) x.place x.kind (sym h.arrives) refl refl)) (found_all items starts closed h.path h.is_path has x.place x.kind h.holds)

@@ -1,9 +1,11 @@
-pub mod SourceLemmas
 pub mod GrowLemmas
+pub mod SourceLemmas
 pub mod SlotLemmas
 pub mod ShapeLemmas
 pub mod KindLemmas
 pub mod FlowLemmas
+pub mod StopLemmas
+pub mod BehindLemmas
 pub mod StartLemmas
 pub mod KindFaultLemmas
 pub mod FailLemmas

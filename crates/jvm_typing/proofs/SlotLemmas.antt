@@ -1,25 +1,11 @@
 -- The facts of a place by its slot.
-use Rattle.std.proofs.Common.{◌≡◌, ◌↔◌, ◌⊎◌, ℕ, zero, suc, ◌+◌, ◌<◌, ◌≢◌, List, [], ◌∷◌, ◌++◌, length, get_or, set, map, Contains, Option, Some, None, slice_get, refl, sym, ◌∙◌, ap, subst, inl, inr, arith}
+use Rattle.std.proofs.Common.{◌≡◌, ◌⊎◌, ℕ, zero, suc, ◌<◌, List, [], ◌∷◌, ◌++◌, length, get_or, set, Contains, Some, slice_get, refl, sym, ◌∙◌, ap, subst, inl, inr, arith}
 use Rattle.std.proofs.lemmas.Bool.{cases_eq}
 use Rattle.std.proofs.lemmas.List.{get_or-set_other, length-set}
 use Rattle.std.proofs.lemmas.Grind.{get_or-set_at}
-use Rattle.std.proofs.lemmas.List.Elements.{Contains-append_left, Contains-push, Contains-get_or}
-use Rattle.std.proofs.lemmas.Option.{slice_get_within, get_or_from_slice_get}
-use Rattle.jo_prog.specs.Typing.{Kind}
+use Rattle.std.proofs.lemmas.List.Elements.{Contains-append_left, Contains-push}
 use Rattle.jvm_typing.specs.declared.facts.Fact.{Fact}
-use Rattle.typing_heights.specs.Adds.{Adds, From}
-use Rattle.jvm_typing.specs.KindPasses.{Item, items_of, HeldBy}
-use Rattle.jvm_typing.specs.Slots.{slot_of, numbers_in, AreListed, ListsPlace, HeldAt}
-use Rattle.typing_heights.proofs.AddsLemmas.{adds_none, adds_alike}
-use Rattle.jvm_typing.proofs.GrowLemmas.{kinds_exact}
-
-pub contains_at : {A : Type 0} (xs : List A) (n : ℕ) (x : A) → slice_get xs n ≡ Some x → Contains xs x
-contains_at xs n x found = subst (λ y. Contains xs y) (get_or_from_slice_get xs n x x found) (Contains-get_or xs n x (slice_get_within xs n x found))
-
-number_of : {A : Type 0} (xs : List A) (x : A) → Contains xs x → (n : ℕ) × (slice_get xs n ≡ Some x)
-number_of [] x c = absurd (let b = c.1 in omega arith)
-number_of (y ∷ xs) x (zero, b, e) = (0, ap Some e)
-number_of (y ∷ xs) x (suc k, b, e) = let r = number_of xs x (k, (let l = b in omega arith), e) in (suc r.0, r.1)
+use Rattle.jvm_typing.specs.Slots.{slot_of, numbers_in, AreListed, ListsPlace}
 
 at_push : {A : Type 0} (xs : List A) (x : A) (k : ℕ) (y : A) → slice_get (xs ++ x ∷ []) k ≡ Some y → (slice_get xs k ≡ Some y) ⊎ ((k ≡ length xs) × (y ≡ x))
 at_push [] x zero y e = inr (refl, cc)
@@ -79,30 +65,3 @@ pub lists_place : (facts : List Fact) (slots : List (List ℕ)) (pc place : ℕ)
 lists_place facts slots pc place listed n fact found at_pc at_place =
     subst (λ (p : ℕ). Contains (numbers_in slots (slot_of (length slots) p place)) n) at_pc
     (subst (λ (q : ℕ). Contains (numbers_in slots (slot_of (length slots) fact.pc q)) n) at_place (listed.each n fact found))
-
-module _ (facts : List Fact) (pc place : ℕ) where
-  pub held_nowhere : (S : Kind → Type 0) (n : ℕ) → slice_get facts n ≡ None → Adds S S (HeldAt facts pc place n)
-  held_nowhere S n none = adds_none S (HeldAt facts pc place n) never
-    where
-      never : (kind : Kind) → HeldAt facts pc place n kind → ⊥
-      never kind (fact, found, held) = absurd (cc)
-
-  pub held_here : (S T : Kind → Type 0) (n : ℕ) (fact : Fact) → slice_get facts n ≡ Some fact → Adds S T (HeldBy fact pc place) → Adds S T (HeldAt facts pc place n)
-  held_here S T n fact at adds = adds_alike S T (HeldBy fact pc place) (HeldAt facts pc place n) adds (λ kind. (λ held. (fact, at, held), back kind))
-    where
-      back : (kind : Kind) → HeldAt facts pc place n kind → HeldBy fact pc place kind
-      back kind (other, found, held) = let same : other ≡ fact = cc in subst (λ (f : Fact). HeldBy f pc place kind) same held
-
-  pub place_exact : (numbers : List ℕ) (kinds : List Kind) → ListsPlace facts pc place numbers → Adds (Contains {X = Kind} []) (Contains kinds) (From numbers (HeldAt facts pc place))
-      → (kind : Kind) → Contains kinds kind ↔ Contains (items_of facts) (record { pc = pc; place = place; kind = kind })
-  place_exact numbers kinds lists adds =
-      kinds_exact facts pc place kinds
-      (adds_alike (Contains {X = Kind} []) (Contains kinds) (From numbers (HeldAt facts pc place)) (From facts (λ (fact : Fact) (kind : Kind). HeldBy fact pc place kind)) adds (λ kind. (onto kind, back kind)))
-    where
-      onto : (kind : Kind) → From numbers (HeldAt facts pc place) kind → From facts (λ (fact : Fact) (k : Kind). HeldBy fact pc place k) kind
-      onto kind (n, among, (fact, found, held)) = (fact, contains_at facts n fact found, held)
-
-      back : (kind : Kind) → From facts (λ (fact : Fact) (k : Kind). HeldBy fact pc place k) kind → From numbers (HeldAt facts pc place) kind
-      back kind (fact, among, held) =
-          let at = number_of facts fact among in
-          (at.0, lists at.0 fact at.1 held.0 held.1, (fact, at.1, held))

@@ -8,6 +8,8 @@ use Rattle.jo_prog.specs.Typing.{Kind}
 use Rattle.jo_prog.specs.Shapes.{Need, passes, Effect}
 use Rattle.jo_prog.specs.TypingPaths.{Typable, effect_at, catches_wrong, IsTypedMethod, IsLeastFault, HasHeightAt}
 use Rattle.jvm_typing.specs.declared.facts.Fact.{Fact}
+use Rattle.jvm_typing.specs.declared.kind_faults.Asked.{Asked}
+use Rattle.typing_effects.specs.Effects.{effect_in}
 use Rattle.typing_heights.specs.Adds.{From, FromBelow}
 use Rattle.jvm_typing.specs.KindPasses.{Item, item_in}
 use Rattle.typing_heights.specs.Searches.{height_at}
@@ -38,6 +40,11 @@ FailsAt program t x fault = (place_fails program t.code.max_locals (effect_at pr
 
 abbrev pub FailsBy : Program → Typable → Fact → TypeFault → Type 0
 FailsBy program t fact fault = FailsAt program t (item_in fact) fault
+
+-- it is what the instruction at that pc does
+pub record IsAskedAt (program : Program) (t : Typable) (pc : ℕ) (asked : Asked) : Type 0 where
+  pub at_pc : asked.pc ≡ pc
+  pub same_effect : effect_in asked.effect ≡ effect_at program t pc
 
 abbrev pub WrongAt : Program → Typable → List (Option ℕ) → ℕ → TypeFault → Type 0
 WrongAt program t heights pc fault = (is_some (height_at heights pc) ≡ true) × (is_wrong program t pc ≡ true) × (fault ≡ kind_fault pc)

@@ -1,5 +1,5 @@
 -- Which kinds places may hold, and how they spread along the steps of the code (this project's own).
-use Rattle.std.specs.Prelude.{◌≡◌, ◌↔◌, ◌⊎◌, ℕ, ◌+◌, ◌-◌, ◌<◌, Bool, false, ◌==◌, nat_lt, if◌then◌else◌, List, ◌++◌, map, length, Contains, Option, Some, None, slice_get}
+use Rattle.std.specs.Prelude.{◌≡◌, ◌↔◌, ℕ, ◌+◌, ◌-◌, ◌<◌, ◌==◌, nat_lt, if◌then◌else◌, List, ◌++◌, map, length, Contains, Option, Some, None, slice_get}
 use Rattle.jo_prog.specs.declared.program.Program.{Program}
 use Rattle.jo_prog.specs.declared.program.Row.{Row}
 use Rattle.jo_prog.specs.InsnTyping.{caught, shape_at_start}
@@ -7,14 +7,11 @@ use Rattle.jo_prog.specs.Typing.{Kind, Ref, Unset, Shape}
 use Rattle.jo_prog.specs.Shapes.{Change, Same, changed, Origin, Always, OfStack, OfLocal, Effect}
 use Rattle.jo_prog.specs.TypingPaths.{Typable, Step, arrives_at, height_of, shape_of, effect_at, TypingPath}
 use Rattle.jvm_typing.specs.declared.facts.Fact.{Fact}
-use Rattle.typing_effects.specs.declared.kinds.Kind.{Kind as KindHere}
 use Rattle.typing_heights.specs.declared.moves.Move.{Move}
 use Rattle.typing_effects.specs.Kinds.{kind_in}
+use Rattle.typing_heights.specs.Adds.{Adds, FromBelow}
+use Rattle.typing_heights.specs.Moves.{IsMove}
 use Rattle.typing_heights.specs.Searches.{height_at}
-
--- the fact is of that place at that pc
-abbrev pub HeldBy : Fact → ℕ → ℕ → Kind → Type 0
-HeldBy fact pc place kind = (fact.pc ≡ pc) × (fact.place ≡ place) × (kind ≡ kind_in fact.kind)
 
 -- ---- a place of a shape: the locals come first, then the stack from its top
 
@@ -90,16 +87,20 @@ pub record Brings (program : Program) (items : List Item) (from to place : ℕ) 
   pub at_place : x.place ≡ place
   pub gives : Gives program items from source x.kind
 
--- The new list has what the old one has and some of this; where it says that there is no more, it is the old one and has all of it.
-pub record Grows (More : Item → Type 0) (old new : List Item) (more : Bool) : Type 0 where
-  pub kept : (x : Item) → Contains old x → Contains new x
-  pub sound : (x : Item) → Contains new x → Contains old x ⊎ More x
-  pub still : more ≡ false → new ≡ old
-  pub full : more ≡ false → (x : Item) → More x → Contains old x
+-- the new list begins with the old one, and has this besides
+pub record Grows (More : Item → Type 0) (old new : List Item) : Type 0 where
+  pub stays : (k : ℕ) (x : Item) → slice_get old k ≡ Some x → slice_get new k ≡ Some x
+  pub adds : Adds (Contains old) (Contains new) More
 
--- what the kinds that a place may hold are turned into at another
-abbrev pub Turned : Program → ℕ → ℕ → Change → KindHere → Item → Type 0
-Turned program to place change kind x = x ≡ record { pc = to; place = place; kind = changed program change (kind_in kind) }
+-- what a source gives a place, whatever is held
+abbrev pub Fixes : ℕ → ℕ → Source → Item → Type 0
+Fixes to place (Fixed kind) x = x ≡ record { pc = to; place = place; kind = kind }
+Fixes to place (FromPlace before change) x = ⊥
+
+-- what it gives because of what is held there
+abbrev pub Carries : Program → Item → ℕ → ℕ → Source → Item → Type 0
+Carries program y to place (Fixed kind) x = ⊥
+Carries program y to place (FromPlace before change) x = (before ≡ y.place) × (x ≡ record { pc = to; place = place; kind = changed program change y.kind })
 
 -- ---- one step of the code
 
@@ -123,15 +124,40 @@ abbrev pub ClosedAt : Program → Typable → List (Option ℕ) → Move → Lis
 ClosedAt program t heights m items =
     (height : ℕ) → height_at heights m.from ≡ Some height → height_at heights m.to ≡ Some m.height → ClosedBelow program t m height (t.code.max_locals + m.height) items
 
--- The new list has no fact that doesn't hold, if the old one has none; where it says that there is no more, it is the old one and closed.
-pub record Spreads (program : Program) (t : Typable) (heights : List (Option ℕ)) (Closed : List Item → Type 0) (old new : List Item) (more : Bool) : Type 0 where
-  pub kept : (x : Item) → Contains old x → Contains new x
-  pub sound : ((x : Item) → Contains old x → Holds program t heights x) → (x : Item) → Contains new x → Holds program t heights x
-  pub still : more ≡ false → new ≡ old
-  pub full : more ≡ false → Closed old
+abbrev pub ClosedFor : Program → Typable → List (Option ℕ) → List Item → Type 0
+ClosedFor program t heights items = (m : Move) → IsMove program t heights m → ClosedAt program t heights m items
 
-abbrev pub ClosedFor : Program → Typable → List (Option ℕ) → List Move → List Item → Type 0
-ClosedFor program t heights moves items = (m : Move) → Contains moves m → ClosedAt program t heights m items
+abbrev pub FixesBehind : Program → Typable → Move → ℕ → Item → Type 0
+FixesBehind program t m height x = FromBelow (t.code.max_locals + m.height) (λ place. Fixes m.to place (step_source program t m height place)) x
+
+abbrev pub CarriesBehind : Program → Typable → Item → Move → ℕ → Item → Type 0
+CarriesBehind program t y m height x = FromBelow (t.code.max_locals + m.height) (λ place. Carries program y m.to place (step_source program t m height place)) x
+
+-- the same of one place, if it is there
+pub record CarriesTo (program : Program) (t : Typable) (y : Item) (m : Move) (height place : ℕ) (x : Item) : Type 0 where
+  pub below : place < t.code.max_locals + m.height
+  pub carries : Carries program y m.to place (step_source program t m height place) x
+
+-- a step from this height that leads to a pc at the height that this has
+pub record GoesAlong (program : Program) (t : Typable) (heights : List (Option ℕ)) (height : ℕ) (m : Move) : Type 0 where
+  pub is_move : IsMove program t heights m
+  pub at_height : height_at heights m.from ≡ Some height
+  pub to_height : height_at heights m.to ≡ Some m.height
+
+-- by the steps from a pc
+pub record FixesFrom (program : Program) (t : Typable) (heights : List (Option ℕ)) (pc : ℕ) (x : Item) : Type 0 where
+  pub step : Move
+  pub height : ℕ
+  pub along : GoesAlong program t heights height step
+  pub from_it : step.from ≡ pc
+  pub fixes : FixesBehind program t step height x
+
+pub record CarriesFrom (program : Program) (t : Typable) (heights : List (Option ℕ)) (y x : Item) : Type 0 where
+  pub step : Move
+  pub height : ℕ
+  pub along : GoesAlong program t heights height step
+  pub from_it : step.from ≡ y.pc
+  pub carries : CarriesBehind program t y step height x
 
 -- what a method's places hold at its start
 abbrev pub Starts : Program → Typable → Item → Type 0
@@ -144,3 +170,10 @@ AreKinds program t heights items = (x : Item) → Contains items x ↔ Holds pro
 -- what one place holds at the start
 abbrev pub StartAt : List Kind → ℕ → Item → Type 0
 StartAt kinds place x = (x.pc ≡ 0) × (x.place ≡ place) × (slice_get kinds place ≡ Some x.kind)
+
+-- All that is found holds. What holds at the start, what steps fix, and what they carry on from the first facts is found.
+pub record Found (program : Program) (t : Typable) (heights : List (Option ℕ)) (done : ℕ) (items : List Item) : Type 0 where
+  pub sound : (x : Item) → Contains items x → Holds program t heights x
+  pub starts : (x : Item) → Starts program t x → Contains items x
+  pub fixed : (pc : ℕ) (x : Item) → FixesFrom program t heights pc x → Contains items x
+  pub carried : (k : ℕ) (y : Item) → k < done → slice_get items k ≡ Some y → (x : Item) → CarriesFrom program t heights y x → Contains items x

@@ -1,9 +1,7 @@
 -- Facts by slots: where in their list those of a place stand (this project's own), as in hashing with separate chains (Knuth, The
 -- Art of Computer Programming 3, 6.4).
 use Rattle.std.specs.Prelude.{◌≡◌, ℕ, ◌+◌, ◌*◌, ◌%◌, ◌<◌, List, [], length, Contains, Some, slice_get, slice_index_or}
-use Rattle.jo_prog.specs.Typing.{Kind}
 use Rattle.jvm_typing.specs.declared.facts.Fact.{Fact}
-use Rattle.jvm_typing.specs.KindPasses.{HeldBy}
 
 -- the slot of a place at a pc, among so many
 abbrev pub slot_of : ℕ → ℕ → ℕ → ℕ
@@ -20,7 +18,3 @@ pub record AreListed (facts : List Fact) (slots : List (List ℕ)) : Type 0 wher
 -- the numbers of all facts of that place at that pc are among these
 abbrev pub ListsPlace : List Fact → ℕ → ℕ → List ℕ → Type 0
 ListsPlace facts pc place numbers = (n : ℕ) (fact : Fact) → slice_get facts n ≡ Some fact → fact.pc ≡ pc → fact.place ≡ place → Contains numbers n
-
--- the fact with that number is of that place at that pc
-abbrev pub HeldAt : List Fact → ℕ → ℕ → ℕ → Kind → Type 0
-HeldAt facts pc place n kind = (fact : Fact) × (slice_get facts n ≡ Some fact) × HeldBy fact pc place kind

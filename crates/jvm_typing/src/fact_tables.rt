@@ -58,6 +58,13 @@ impl FactTable {
         numbers_in(self.slots.as_slice(), slot)
     }
 
+    /// The facts alone.
+    pub(crate) fn into_facts(self) -> Vec<Fact>
+        ensures { result.items ≡ self }
+    {
+        self.facts
+    }
+
     /// The facts.
     pub(crate) fn as_slice(&self) -> &[Fact]
         ensures { result.now ≡ self.now }

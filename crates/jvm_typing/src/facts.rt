@@ -1,11 +1,8 @@
 //! Which kinds places may hold at a pc: facts that grow in number.
-ghost use Rattle.std.specs.Prelude.{◌≡◌, ◌↔◌, true, ℕ, Contains, map, slice_get, IfOk, OnOk};
+ghost use Rattle.std.specs.Prelude.{◌≡◌, true, Contains, slice_get, IfOk, OnOk};
 ghost use Rattle.std.specs.Option.{option_copied};
-ghost use Rattle.jo_prog.specs.Typing.{Kind as OfKind};
-ghost use Rattle.typing_heights.specs.Adds.{Adds};
 ghost use Rattle.typing_effects.specs.Kinds.{kind_in};
-ghost use Rattle.jvm_typing.specs.KindPasses.{Item, items_of, Grows, HeldBy};
-ghost use Rattle.jvm_typing.specs.Slots.{HeldAt};
+ghost use Rattle.jvm_typing.specs.KindPasses.{Item, items_of, Grows};
 
 use crate::fact_tables::FactTable;
 use jo_ids::Memory;
@@ -118,75 +115,39 @@ fn has_fact(facts: &FactTable, pc: u32, place: usize, kind: &Kind) -> bool
     false
 }
 
-/// Adds that, unless it is there. Whether it wasn't.
+/// Adds that, unless it is there.
 pub(crate) fn add_fact(
     facts: &mut FactTable,
     pc: u32,
     place: usize,
     kind: Kind,
-) -> Result<bool, Memory>
-    ensures { IfOk result (λ more. Grows (λ (x : Item). x ≡ record { pc = pc; place = place; kind = kind_in kind }) (items_of facts.old) (items_of facts.new) more) }
+) -> Result<(), Memory>
+    ensures { OnOk result (Grows (λ (x : Item). x ≡ record { pc = pc; place = place; kind = kind_in kind }) (items_of facts.old) (items_of facts.new)) }
 {
     if has_fact(facts, pc, place, &kind) {
-        return Ok(false);
+        return Ok(());
     }
     facts.push(Fact { pc, place, kind })?;
-    Ok(true)
-}
-
-fn copy_where(
-    alloc: Global,
-    kinds: &mut Vec<Kind>,
-    fact: &Fact,
-    pc: u32,
-    place: usize,
-) -> Result<(), Memory>
-    ensures { OnOk result (Adds (Contains (map kind_in kinds.old.items)) (Contains (map kind_in kinds.new.items)) (HeldBy fact.now pc place)) }
-{
-    if fact.pc != pc {
-        return Ok(());
-    }
-    if fact.place != place {
-        return Ok(());
-    }
-    let kind = copy_kind(alloc, &fact.kind)?;
-    kinds.push(kind)?;
     Ok(())
 }
 
-/// The same for the fact with that number.
-fn copy_at(
+/// The fact with that number.
+pub(crate) fn copy_fact(
     alloc: Global,
-    kinds: &mut Vec<Kind>,
     facts: &[Fact],
     number: usize,
-    pc: u32,
-    place: usize,
-) -> Result<(), Memory>
-    ensures { OnOk result (Adds (Contains (map kind_in kinds.old.items)) (Contains (map kind_in kinds.new.items)) (HeldAt facts.now pc place number)) }
+) -> Result<Option<Fact>, Memory>
+    ensures { IfOk result (λ copy. copy ≡ slice_get facts.now number) }
 {
     match fact_at(facts, number) {
         Some(fact) => {
-            copy_where(alloc, kinds, fact, pc, place)?;
-            Ok(())
+            let kind = copy_kind(alloc, &fact.kind)?;
+            Ok(Some(Fact {
+                pc: fact.pc,
+                place: fact.place,
+                kind,
+            }))
         }
-        None => Ok(()),
+        None => Ok(None),
     }
-}
-
-/// The kinds that are known of a place at a pc.
-pub(crate) fn kinds_at(
-    alloc: Global,
-    facts: &FactTable,
-    pc: u32,
-    place: usize,
-) -> Result<Vec<Kind>, Memory>
-    ensures { IfOk result (λ kinds. (kind : OfKind) → Contains (map kind_in kinds.items) kind ↔ Contains (items_of facts.now) (record { pc = pc; place = place; kind = kind })) }
-{
-    let mut kinds = Vec::new(alloc);
-    let numbers = facts.numbers(pc, place);
-    for number in numbers {
-        copy_at(alloc, &mut kinds, facts.as_slice(), *number, pc, place)?;
-    }
-    Ok(kinds)
 }

@@ -1,104 +1,30 @@
-//! How kinds spread along the steps of the code, until nothing is new.
-ghost use Rattle.std.specs.Prelude.{◌≡◌, ◌||◌, ◌<◌, ◌≤◌, ◌+◌, ◌^◌, ◌↔◌, false, Some, length, Contains, IfOk};
+//! How kinds spread along the steps of the code, until nothing is new: each fact is carried on once.
+ghost use Rattle.std.specs.Prelude.{◌≡◌, ◌<◌, ◌≤◌, ◌+◌, ◌^◌, ◌↔◌, Some, length, Contains, IfOk, OnOk};
 ghost use Rattle.std.specs.Option.{option_copied};
 ghost use Rattle.hierarchy.specs.Hierarchies.{IsHierarchyOf};
-ghost use Rattle.jo_prog.specs.TypingPaths.{effect_at};
-ghost use Rattle.typing_heights.specs.Adds.{From};
-ghost use Rattle.typing_effects.specs.Effects.{effect_in};
-ghost use Rattle.typing_effects.specs.Kinds.{change_in};
-ghost use Rattle.jvm_typing.specs.KindPasses.{Item, items_of, Grows, Brings, Turned, Spreads, ClosedAt, ClosedBelow, ClosedFor, AreKinds, row_at};
-ghost use Rattle.typing_heights.specs.Moves.{IsMove};
-ghost use Rattle.typing_heights.specs.Searches.{height_at, AreHeights};
-ghost use Rattle.jvm_typing.specs.Sources.{source_in};
+ghost use Rattle.typing_heights.specs.Adds.{From, FromBelow};
+ghost use Rattle.typing_heights.specs.Searches.{AreHeights};
 ghost use Rattle.typing_heights.specs.Subjects.{program_of, typable_of, IsSubject};
 ghost use Rattle.typing_heights.specs.declared.moves.Move.{Move};
+ghost use Rattle.jvm_typing.specs.KindPasses.{Item, item_in, items_of, Grows, Fixes, Carries, FixesBehind, CarriesBehind, CarriesTo, FixesFrom, CarriesFrom, Found, AreKinds, row_at, step_source};
+ghost use Rattle.jvm_typing.specs.Sources.{source_in};
+ghost use Rattle.jvm_typing.specs.Stops.{IsStop, AreStops};
 
 use crate::fact_tables::FactTable;
-use crate::facts::{add_fact, kinds_at};
-use crate::sources::{Sizes, Source, source_of};
+use crate::facts::{Fact, add_fact, copy_fact};
+use crate::sources::{Sizes, Source, fed, source_of};
 use crate::starts::start_facts;
+use crate::stops::{Stop, stop_of, stops_of};
 use hierarchy::Hierarchy;
 use jo_ids::Memory;
 use jo_prog::program::{Program, Row};
 use std::alloc::{AllocError, Global};
-use typing_effects::effects::{Effect, effect_at};
-use typing_effects::kinds::{Change, Kind, changed};
-use typing_heights::faults::differs;
+use typing_effects::kinds::changed;
 use typing_heights::moves::Move;
-use typing_heights::search::known_height;
 use typing_heights::subjects::Subject;
 
 /// How many slots a table of facts has at most.
 const MOST_SLOTS: usize = 1_048_576;
-
-fn either(a: bool, b: bool) -> bool
-    ensures { result ≡ (a || b) }
-{
-    a || b
-}
-
-fn bring_one(
-    alloc: Global,
-    program: &Program,
-    facts: &mut FactTable,
-    to: u32,
-    place: usize,
-    change: Change,
-    kind: &Kind,
-) -> Result<bool, Memory>
-    requires { length program.now.classes < 2 ^ 32 }
-    ensures { IfOk result (λ more. Grows (Turned program.now to place (change_in change) kind.now) (items_of facts.old) (items_of facts.new) more) }
-{
-    let made = changed(alloc, program, change, kind)?;
-    let more = add_fact(facts, to, place, made)?;
-    Ok(more)
-}
-
-fn bring_all(
-    alloc: Global,
-    program: &Program,
-    facts: &mut FactTable,
-    to: u32,
-    place: usize,
-    change: Change,
-    kinds: &[Kind],
-) -> Result<bool, Memory>
-    requires { length program.now.classes < 2 ^ 32 }
-    ensures { IfOk result (λ more. Grows (From kinds.now (Turned program.now to place (change_in change))) (items_of facts.old) (items_of facts.new) more) }
-{
-    let mut more = false;
-    for kind in kinds {
-        let new = bring_one(alloc, program, facts, to, place, change, kind)?;
-        more = either(more, new);
-    }
-    Ok(more)
-}
-
-/// Adds what a source brings into a place.
-fn bring(
-    alloc: Global,
-    program: &Program,
-    facts: &mut FactTable,
-    from: u32,
-    to: u32,
-    place: usize,
-    source: Source,
-) -> Result<bool, Memory>
-    requires { length program.now.classes < 2 ^ 32 }
-    ensures { IfOk result (λ more. Grows (Brings program.now (items_of facts.old) from to place (source_in source)) (items_of facts.old) (items_of facts.new) more) }
-{
-    match source {
-        Source::Fixed(kind) => {
-            let more = add_fact(facts, to, place, kind)?;
-            Ok(more)
-        }
-        Source::FromPlace(before, change) => {
-            let kinds = kinds_at(alloc, facts, from, before)?;
-            let more = bring_all(alloc, program, facts, to, place, change, kinds.as_slice())?;
-            Ok(more)
-        }
-    }
-}
 
 fn row_at<'p>(rows: &'p [Row], row: Option<usize>) -> Option<&'p Row>
     ensures { option_copied result ≡ row_at rows.now row }
@@ -109,96 +35,237 @@ fn row_at<'p>(rows: &'p [Row], row: Option<usize>) -> Option<&'p Row>
     }
 }
 
-/// Adds what a step brings into each place behind it.
-fn bring_step(
+/// Where a place behind the step takes its kind from.
+fn source_behind(
     alloc: Global,
     subject: &Subject<'_>,
     heights: &[Option<u16>],
-    facts: &mut FactTable,
-    effect: &Effect,
-    sizes: Sizes,
+    stop: &Stop,
     step: Move,
-) -> Result<bool, Memory>
-    requires short { length (program_of subject.now).classes < 2 ^ 32 }
-    requires heights { AreHeights (program_of subject.now) (typable_of subject.now) heights.now }
-    requires is_move { IsMove (program_of subject.now) (typable_of subject.now) heights.now step }
-    requires at_height { height_at heights.now step.from ≡ Some sizes.height }
-    requires to_height { height_at heights.now step.to ≡ Some step.height }
-    requires locals { sizes.locals ≡ subject.now.code.now.max_locals }
-    requires effect { effect_in effect.now ≡ effect_at (program_of subject.now) (typable_of subject.now) step.from }
-    ensures { IfOk result (λ more. Spreads (program_of subject.now) (typable_of subject.now) heights.now (ClosedBelow (program_of subject.now) (typable_of subject.now) step sizes.height (subject.now.code.now.max_locals + step.height)) (items_of facts.old) (items_of facts.new) more) }
+    place: usize,
+) -> Result<Source, Memory>
+    requires stop { IsStop (program_of subject.now) (typable_of subject.now) heights.now step.from stop.now }
+    requires place { place < 2 ^ 17 }
+    ensures { IfOk result (λ source. source_in source ≡ step_source (program_of subject.now) (typable_of subject.now) step stop.now.height place) }
 {
-    let mut more = false;
-    for place in 0..usize::from(sizes.locals) + usize::from(step.height) {
-        let row = row_at(subject.code.rows.as_slice(), step.row);
-        let source = source_of(alloc, effect, row, sizes, place)?;
-        let new = bring(
-            alloc,
-            subject.program,
-            facts,
-            step.from,
-            step.to,
-            place,
-            source,
-        )?;
-        more = either(more, new);
-    }
-    Ok(more)
+    let row = row_at(subject.code.rows.as_slice(), step.row);
+    let sizes = sizes_at(subject, stop);
+    let source = source_of(alloc, &stop.effect, row, sizes, place)?;
+    Ok(source)
 }
 
-/// Adds what a step brings, where it leads to a pc at the height that this has.
-fn flow(
-    alloc: Global,
-    hierarchy: &Hierarchy,
-    subject: &Subject<'_>,
-    heights: &[Option<u16>],
-    facts: &mut FactTable,
-    step: Move,
-) -> Result<bool, Memory>
-    requires subject { IsSubject subject.now }
-    requires kept { IsHierarchyOf (program_of subject.now) hierarchy.now }
-    requires short { length (program_of subject.now).classes < 2 ^ 32 }
-    requires heights { AreHeights (program_of subject.now) (typable_of subject.now) heights.now }
-    requires is_move { IsMove (program_of subject.now) (typable_of subject.now) heights.now step }
-    ensures { IfOk result (λ more. Spreads (program_of subject.now) (typable_of subject.now) heights.now (ClosedAt (program_of subject.now) (typable_of subject.now) heights.now step) (items_of facts.old) (items_of facts.new) more) }
+fn sizes_at(subject: &Subject<'_>, stop: &Stop) -> Sizes
+    ensures { result ≡ record { locals = subject.now.code.now.max_locals; height = stop.now.height } }
 {
-    let Some(height) = known_height(heights, step.from) else {
-        return Ok(false);
-    };
-    if differs(heights, step.to, step.height) {
-        return Ok(false);
-    }
-    let effect = effect_at(alloc, hierarchy, subject, step.from)?;
-    let sizes = Sizes {
+    Sizes {
         locals: subject.code.max_locals,
-        height,
-    };
-    let more = bring_step(alloc, subject, heights, facts, &effect, sizes, step)?;
-    Ok(more)
+        height: stop.height,
+    }
 }
 
-/// One pass over all steps. Whether anything was new.
-fn round(
+/// How many places there are behind the step.
+fn end_of(subject: &Subject<'_>, step: Move) -> usize
+    ensures value { result ≡ (typable_of subject.now).code.max_locals + step.height }
+    ensures small { result < 2 ^ 17 }
+{
+    usize::from(subject.code.max_locals) + usize::from(step.height)
+}
+
+fn fix(facts: &mut FactTable, to: u32, place: usize, source: Source) -> Result<(), Memory>
+    ensures { OnOk result (Grows (Fixes to place (source_in source)) (items_of facts.old) (items_of facts.new)) }
+{
+    match source {
+        Source::Fixed(kind) => {
+            add_fact(facts, to, place, kind)?;
+            Ok(())
+        }
+        Source::FromPlace(_, _) => Ok(()),
+    }
+}
+
+/// Adds what places behind a step have whatever is held before.
+fn fix_behind(
     alloc: Global,
-    hierarchy: &Hierarchy,
     subject: &Subject<'_>,
     heights: &[Option<u16>],
-    moves: &[Move],
+    stop: &Stop,
     facts: &mut FactTable,
-) -> Result<bool, Memory>
-    requires subject { IsSubject subject.now }
-    requires kept { IsHierarchyOf (program_of subject.now) hierarchy.now }
-    requires short { length (program_of subject.now).classes < 2 ^ 32 }
-    requires heights { AreHeights (program_of subject.now) (typable_of subject.now) heights.now }
-    requires moves { (m : Move) → Contains moves.now m ↔ IsMove (program_of subject.now) (typable_of subject.now) heights.now m }
-    ensures { IfOk result (λ more. Spreads (program_of subject.now) (typable_of subject.now) heights.now (ClosedFor (program_of subject.now) (typable_of subject.now) heights.now moves.now) (items_of facts.old) (items_of facts.new) more) }
+    step: Move,
+) -> Result<(), Memory>
+    requires { IsStop (program_of subject.now) (typable_of subject.now) heights.now step.from stop.now }
+    ensures { OnOk result (Grows (FixesBehind (program_of subject.now) (typable_of subject.now) step stop.now.height) (items_of facts.old) (items_of facts.new)) }
 {
-    let mut more = false;
-    for step in moves {
-        let new = flow(alloc, hierarchy, subject, heights, facts, *step)?;
-        more = either(more, new);
+    for place in 0..end_of(subject, step) {
+        let source = source_behind(alloc, subject, heights, stop, step, place)?;
+        fix(facts, step.to, place, source)?;
     }
-    Ok(more)
+    Ok(())
+}
+
+/// The same for each step from a pc.
+fn fix_from(
+    alloc: Global,
+    subject: &Subject<'_>,
+    heights: &[Option<u16>],
+    pc: u32,
+    stop: &Stop,
+    facts: &mut FactTable,
+) -> Result<(), Memory>
+    requires { IsStop (program_of subject.now) (typable_of subject.now) heights.now pc stop.now }
+    ensures { OnOk result (Grows (FixesFrom (program_of subject.now) (typable_of subject.now) heights.now pc) (items_of facts.old) (items_of facts.new)) }
+{
+    for step in stop.moves.as_slice() {
+        fix_behind(alloc, subject, heights, stop, facts, *step)?;
+    }
+    Ok(())
+}
+
+fn fix_at(
+    alloc: Global,
+    subject: &Subject<'_>,
+    heights: &[Option<u16>],
+    stops: &[Option<Stop>],
+    facts: &mut FactTable,
+    pc: u32,
+) -> Result<(), Memory>
+    requires { AreStops (program_of subject.now) (typable_of subject.now) heights.now stops.now }
+    ensures { OnOk result (Grows (FixesFrom (program_of subject.now) (typable_of subject.now) heights.now pc) (items_of facts.old) (items_of facts.new)) }
+{
+    match stop_of(stops, pc) {
+        Some(stop) => {
+            fix_from(alloc, subject, heights, pc, stop, facts)?;
+            Ok(())
+        }
+        None => Ok(()),
+    }
+}
+
+/// The same for each pc.
+fn fix_all(
+    alloc: Global,
+    subject: &Subject<'_>,
+    heights: &[Option<u16>],
+    stops: &[Option<Stop>],
+    facts: &mut FactTable,
+) -> Result<(), Memory>
+    requires { AreStops (program_of subject.now) (typable_of subject.now) heights.now stops.now }
+    ensures { OnOk result (Grows (FromBelow (length heights.now) (FixesFrom (program_of subject.now) (typable_of subject.now) heights.now)) (items_of facts.old) (items_of facts.new)) }
+{
+    for place in 0..heights.len() {
+        let Ok(pc) = u32::try_from(place) else {
+            return Err(AllocError);
+        };
+        fix_at(alloc, subject, heights, stops, facts, pc)?;
+    }
+    Ok(())
+}
+
+/// Adds what a fact gives to a place that takes its kind from there.
+fn carry(
+    alloc: Global,
+    program: &Program,
+    facts: &mut FactTable,
+    fact: &Fact,
+    to: u32,
+    place: usize,
+    source: Source,
+) -> Result<(), Memory>
+    requires { length program.now.classes < 2 ^ 32 }
+    ensures { OnOk result (Grows (Carries program.now (item_in fact.now) to place (source_in source)) (items_of facts.old) (items_of facts.new)) }
+{
+    let Source::FromPlace(before, change) = source else {
+        return Ok(());
+    };
+    if before != fact.place {
+        return Ok(());
+    }
+    let kind = changed(alloc, program, change, &fact.kind)?;
+    add_fact(facts, to, place, kind)?;
+    Ok(())
+}
+
+/// The same for a place behind the step, if it is one.
+fn carry_to(
+    alloc: Global,
+    subject: &Subject<'_>,
+    heights: &[Option<u16>],
+    stop: &Stop,
+    facts: &mut FactTable,
+    fact: &Fact,
+    step: Move,
+    place: usize,
+) -> Result<(), Memory>
+    requires short { length (program_of subject.now).classes < 2 ^ 32 }
+    requires stop { IsStop (program_of subject.now) (typable_of subject.now) heights.now step.from stop.now }
+    ensures { OnOk result (Grows (CarriesTo (program_of subject.now) (typable_of subject.now) (item_in fact.now) step stop.now.height place) (items_of facts.old) (items_of facts.new)) }
+{
+    if end_of(subject, step) <= place {
+        return Ok(());
+    }
+    let source = source_behind(alloc, subject, heights, stop, step, place)?;
+    carry(alloc, subject.program, facts, fact, step.to, place, source)?;
+    Ok(())
+}
+
+/// The same for all places behind the step.
+fn carry_behind(
+    alloc: Global,
+    subject: &Subject<'_>,
+    heights: &[Option<u16>],
+    stop: &Stop,
+    facts: &mut FactTable,
+    fact: &Fact,
+    step: Move,
+) -> Result<(), Memory>
+    requires short { length (program_of subject.now).classes < 2 ^ 32 }
+    requires stop { IsStop (program_of subject.now) (typable_of subject.now) heights.now step.from stop.now }
+    ensures { OnOk result (Grows (CarriesBehind (program_of subject.now) (typable_of subject.now) (item_in fact.now) step stop.now.height) (items_of facts.old) (items_of facts.new)) }
+{
+    let places = fed(alloc, &stop.effect, sizes_at(subject, stop), fact.place)?;
+    for place in places.as_slice() {
+        carry_to(alloc, subject, heights, stop, facts, fact, step, *place)?;
+    }
+    Ok(())
+}
+
+/// The same for each step from the fact's pc.
+fn carry_from(
+    alloc: Global,
+    subject: &Subject<'_>,
+    heights: &[Option<u16>],
+    stop: &Stop,
+    facts: &mut FactTable,
+    fact: &Fact,
+) -> Result<(), Memory>
+    requires short { length (program_of subject.now).classes < 2 ^ 32 }
+    requires stop { IsStop (program_of subject.now) (typable_of subject.now) heights.now fact.now.pc stop.now }
+    ensures { OnOk result (Grows (CarriesFrom (program_of subject.now) (typable_of subject.now) heights.now (item_in fact.now)) (items_of facts.old) (items_of facts.new)) }
+{
+    for step in stop.moves.as_slice() {
+        carry_behind(alloc, subject, heights, stop, facts, fact, *step)?;
+    }
+    Ok(())
+}
+
+fn carry_on(
+    alloc: Global,
+    subject: &Subject<'_>,
+    heights: &[Option<u16>],
+    stops: &[Option<Stop>],
+    facts: &mut FactTable,
+    fact: &Fact,
+) -> Result<(), Memory>
+    requires short { length (program_of subject.now).classes < 2 ^ 32 }
+    requires stops { AreStops (program_of subject.now) (typable_of subject.now) heights.now stops.now }
+    ensures { OnOk result (Grows (CarriesFrom (program_of subject.now) (typable_of subject.now) heights.now (item_in fact.now)) (items_of facts.old) (items_of facts.new)) }
+{
+    match stop_of(stops, fact.pc) {
+        Some(stop) => {
+            carry_from(alloc, subject, heights, stop, facts, fact)?;
+            Ok(())
+        }
+        None => Ok(()),
+    }
 }
 
 /// How many places a method has at all its pcs, up to a bound.
@@ -207,20 +274,17 @@ fn places_of(pcs: usize, max_locals: u16, max_stack: u16) -> usize {
         .min(MOST_SLOTS)
 }
 
-/// The kinds that the places of the method may hold at each pc, at the height that it has.
-pub(crate) fn kinds_of(
+/// What holds at the start and what steps fix, whatever is held.
+fn first_facts(
     alloc: Global,
-    hierarchy: &Hierarchy,
     subject: &Subject<'_>,
     heights: &[Option<u16>],
-    moves: &[Move],
+    stops: &[Option<Stop>],
 ) -> Result<FactTable, Memory>
-    requires subject { IsSubject subject.now }
-    requires kept { IsHierarchyOf (program_of subject.now) hierarchy.now }
     requires short { length (program_of subject.now).classes < 2 ^ 32 }
     requires heights { AreHeights (program_of subject.now) (typable_of subject.now) heights.now }
-    requires moves { (m : Move) → Contains moves.now m ↔ IsMove (program_of subject.now) (typable_of subject.now) heights.now m }
-    ensures { IfOk result (λ facts. AreKinds (program_of subject.now) (typable_of subject.now) heights.now (items_of facts)) }
+    requires stops { AreStops (program_of subject.now) (typable_of subject.now) heights.now stops.now }
+    ensures { IfOk result (λ facts. Found (program_of subject.now) (typable_of subject.now) heights.now 0 (items_of facts)) }
 {
     let room = places_of(
         heights.len(),
@@ -228,11 +292,58 @@ pub(crate) fn kinds_of(
         subject.code.max_stack,
     );
     let mut facts = start_facts(alloc, subject, room)?;
-    // each pass but the last finds something, so this many find more than memory holds
-    for _ in 0..u32::MAX {
-        if !round(alloc, hierarchy, subject, heights, moves, &mut facts)? {
-            return Ok(facts);
+    fix_all(alloc, subject, heights, stops, &mut facts)?;
+    Ok(facts)
+}
+
+/// The kinds that the places of the method may hold at each pc, at the height that it has.
+fn kinds_of(
+    alloc: Global,
+    hierarchy: &Hierarchy,
+    subject: &Subject<'_>,
+    heights: &[Option<u16>],
+) -> Result<FactTable, Memory>
+    requires subject { IsSubject subject.now }
+    requires kept { IsHierarchyOf (program_of subject.now) hierarchy.now }
+    requires short { length (program_of subject.now).classes < 2 ^ 32 }
+    requires heights { AreHeights (program_of subject.now) (typable_of subject.now) heights.now }
+    ensures { IfOk result (λ facts. AreKinds (program_of subject.now) (typable_of subject.now) heights.now (items_of facts)) }
+{
+    let stops = stops_of(alloc, hierarchy, subject, heights)?;
+    let mut facts = first_facts(alloc, subject, heights, stops.as_slice())?;
+    // memory has no room for as many facts
+    for number in 0..u32::MAX {
+        match copy_fact(alloc, facts.as_slice(), number as usize)? {
+            Some(fact) => carry_on(alloc, subject, heights, stops.as_slice(), &mut facts, &fact)?,
+            None => return Ok(facts),
         }
     }
     Err(AllocError)
+}
+
+/// The facts of each pc together.
+fn in_order(table: FactTable) -> Result<Vec<Fact>, Memory>
+    ensures { IfOk result (λ facts. (x : Item) → Contains (items_of facts.items) x ↔ Contains (items_of table) x) }
+{
+    let mut facts = table.into_facts();
+    facts.sort_by_key(|fact| fact.pc)?;
+    Ok(facts)
+}
+
+/// The kinds that the places of the method may hold at each pc, at the height that it has, those of each pc together.
+pub(crate) fn kinds_in_order(
+    alloc: Global,
+    hierarchy: &Hierarchy,
+    subject: &Subject<'_>,
+    heights: &[Option<u16>],
+) -> Result<Vec<Fact>, Memory>
+    requires subject { IsSubject subject.now }
+    requires kept { IsHierarchyOf (program_of subject.now) hierarchy.now }
+    requires short { length (program_of subject.now).classes < 2 ^ 32 }
+    requires heights { AreHeights (program_of subject.now) (typable_of subject.now) heights.now }
+    ensures { IfOk result (λ facts. AreKinds (program_of subject.now) (typable_of subject.now) heights.now (items_of facts.items)) }
+{
+    let table = kinds_of(alloc, hierarchy, subject, heights)?;
+    let facts = in_order(table)?;
+    Ok(facts)
 }

@@ -7,7 +7,7 @@ ghost use Rattle.jo_prog.specs.declared.typed.TypeFault.{TypeFault};
 ghost use Rattle.jo_prog.specs.TypingPaths;
 ghost use Rattle.typing_heights.specs.Adds.{Adds, From, FromBelow};
 ghost use Rattle.typing_effects.specs.Effects.{need_in, reads_in, effect_in};
-ghost use Rattle.jvm_typing.specs.KindFaults.{read_fails, pop_fails, place_fails, kind_fault, is_wrong, FailsBy, WrongAt, IsKindFault};
+ghost use Rattle.jvm_typing.specs.KindFaults.{read_fails, pop_fails, place_fails, kind_fault, is_wrong, FailsBy, WrongAt, IsKindFault, IsAskedAt};
 ghost use Rattle.typing_effects.specs.Kinds.{kind_in};
 ghost use Rattle.typing_heights.specs.Subjects.{program_of, typable_of, IsSubject};
 
@@ -109,24 +109,66 @@ fn add_fault(found: &mut Vec<TypeFault>, pc: u32) -> Result<(), Memory>
     Ok(())
 }
 
-fn add_failing(
+/// What the instruction at a pc asks.
+#[derive(Drop)]
+struct Asked {
+    pc: u32,
+    effect: Effect,
+}
+
+fn asked_at(
     alloc: Global,
     hierarchy: &Hierarchy,
     subject: &Subject<'_>,
-    found: &mut Vec<TypeFault>,
-    fact: &Fact,
-) -> Result<(), Memory>
+    pc: u32,
+) -> Result<Asked, Memory>
     requires subject { IsSubject subject.now }
     requires kept { IsHierarchyOf (program_of subject.now) hierarchy.now }
     requires short { length (program_of subject.now).classes < 2 ^ 32 }
+    ensures { IfOk result (λ asked. IsAskedAt (program_of subject.now) (typable_of subject.now) pc asked) }
+{
+    let effect = effect_at(alloc, hierarchy, subject, pc)?;
+    Ok(Asked { pc, effect })
+}
+
+/// The same for another pc, read only where it is another.
+fn turn_to(
+    alloc: Global,
+    hierarchy: &Hierarchy,
+    subject: &Subject<'_>,
+    asked: Asked,
+    pc: u32,
+) -> Result<Asked, Memory>
+    requires subject { IsSubject subject.now }
+    requires kept { IsHierarchyOf (program_of subject.now) hierarchy.now }
+    requires short { length (program_of subject.now).classes < 2 ^ 32 }
+    requires asked { IsAskedAt (program_of subject.now) (typable_of subject.now) asked.pc asked }
+    ensures { IfOk result (λ now. IsAskedAt (program_of subject.now) (typable_of subject.now) pc now) }
+{
+    if asked.pc == pc {
+        return Ok(asked);
+    }
+    let now = asked_at(alloc, hierarchy, subject, pc)?;
+    Ok(now)
+}
+
+fn add_failing(
+    hierarchy: &Hierarchy,
+    subject: &Subject<'_>,
+    found: &mut Vec<TypeFault>,
+    asked: &Asked,
+    fact: &Fact,
+) -> Result<(), Memory>
+    requires kept { IsHierarchyOf (program_of subject.now) hierarchy.now }
+    requires short { length (program_of subject.now).classes < 2 ^ 32 }
+    requires asked { IsAskedAt (program_of subject.now) (typable_of subject.now) fact.now.pc asked.now }
     ensures { OnOk result (Adds (Contains found.old.items) (Contains found.new.items) (FailsBy (program_of subject.now) (typable_of subject.now) fact.now)) }
 {
-    let effect = effect_at(alloc, hierarchy, subject, fact.pc)?;
     let locals = subject.code.max_locals;
     if !place_fails(
         subject.program,
         hierarchy,
-        &effect,
+        &asked.effect,
         locals,
         fact.place,
         &fact.kind,
@@ -206,6 +248,7 @@ fn add_wrong(
     }
 }
 
+/// Adds the faults of all facts. Facts of one pc that stand together read its instruction once.
 fn add_all_failing(
     alloc: Global,
     hierarchy: &Hierarchy,
@@ -218,8 +261,10 @@ fn add_all_failing(
     requires short { length (program_of subject.now).classes < 2 ^ 32 }
     ensures { OnOk result (Adds (Contains found.old.items) (Contains found.new.items) (From facts.now (FailsBy (program_of subject.now) (typable_of subject.now)))) }
 {
+    let mut asked = asked_at(alloc, hierarchy, subject, 0)?;
     for fact in facts {
-        add_failing(alloc, hierarchy, subject, found, fact)?;
+        asked = turn_to(alloc, hierarchy, subject, asked, fact.pc)?;
+        add_failing(hierarchy, subject, found, &asked, fact)?;
     }
     Ok(())
 }

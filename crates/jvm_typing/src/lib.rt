@@ -8,4 +8,5 @@ mod kind_faults;
 pub mod programs;
 mod sources;
 mod starts;
+mod stops;
 pub mod typing_methods;

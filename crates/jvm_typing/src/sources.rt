@@ -1,5 +1,5 @@
 //! Where the kind of a place behind a step comes from.
-ghost use Rattle.std.specs.Prelude.{◌≡◌, ◌+◌, ◌-◌, ◌<◌, ◌≤◌, ◌^◌, ℕ, Some, None, length, slice_get, IfOk, option_map};
+ghost use Rattle.std.specs.Prelude.{◌≡◌, ◌+◌, ◌-◌, ◌<◌, ◌≤◌, ◌^◌, ℕ, Some, None, length, slice_get, IfOk, OnOk, option_map};
 ghost use Rattle.std.specs.Option.{option_copied};
 ghost use Rattle.jo_prog.specs.declared.program.Program.{Program};
 ghost use Rattle.jo_prog.specs.Shapes;
@@ -8,7 +8,7 @@ ghost use Rattle.typing_effects.specs.Forms.{push_in};
 ghost use Rattle.typing_effects.specs.Kinds.{kind_in, change_in};
 ghost use Rattle.typing_effects.specs.Effects.{pushes_in, writes_in, effect_in};
 ghost use Rattle.jvm_typing.specs.KindPasses.{origin_source, written_source, pushed_source, plain_source, handler_source, row_source};
-ghost use Rattle.jvm_typing.specs.Sources.{source_in, frame_in, copies};
+ghost use Rattle.jvm_typing.specs.Sources.{source_in, frame_in, copies, HasFrom, Feeds};
 
 use jo_ids::{Id, Memory};
 use jo_prog::program::{Row, TypeRef};
@@ -202,4 +202,44 @@ pub(crate) fn source_of(
             Ok(source)
         }
     }
+}
+
+/// The local that is written, else that place.
+fn written_or(writes: Access, place: usize) -> usize
+    ensures { (k : ℕ) (origin : Shapes.Origin) → writes_in writes ≡ Some (k, origin) → result ≡ k }
+{
+    match writes {
+        Access::Nothing => place,
+        Access::Int(k) => usize::from(k),
+        Access::Reference(k) => usize::from(k),
+    }
+}
+
+fn add_places(places: &mut Vec<usize>, from: usize, end: usize) -> Result<(), Memory>
+    ensures { OnOk result (HasFrom places.old.items from end places.new.items) }
+{
+    for place in from..end {
+        places.push(place)?;
+    }
+    Ok(())
+}
+
+/// The places behind a step that may take their kind from that place, and few others.
+pub(crate) fn fed(
+    alloc: Global,
+    effect: &Effect,
+    sizes: Sizes,
+    place: usize,
+) -> Result<Vec<usize>, Memory>
+    ensures { IfOk result (λ places. Feeds (frame_in sizes) (effect_in effect.now) place places.items) }
+{
+    let locals = usize::from(sizes.locals);
+    let pushed = locals.saturating_add(push_count(&effect.pushes));
+    let popped = locals.saturating_add(effect.pops.len());
+    let mut places = Vec::new(alloc);
+    places.push(place)?;
+    places.push(written_or(effect.writes, place))?;
+    places.push(pushed.saturating_add(place.saturating_sub(popped)))?;
+    add_places(&mut places, locals, pushed)?;
+    Ok(places)
 }

@@ -6,7 +6,7 @@ ghost use Rattle.jvm_typing.specs.KindFaults.{IsFirstAnswer, IsTypeAnswer};
 ghost use Rattle.typing_heights.specs.Searches.{height_at, AreHeights};
 ghost use Rattle.typing_heights.specs.Subjects.{program_of, typable_of, IsSubject};
 
-use crate::flows::kinds_of;
+use crate::flows::kinds_in_order;
 use crate::kind_faults::add_kind_faults;
 use hierarchy::Hierarchy;
 use jo_ids::{Memory, MethodId};
@@ -33,7 +33,7 @@ fn first_fault(
 {
     let moves = moves_of(alloc, subject, heights)?;
     let mut found = height_faults(alloc, subject, heights, moves.as_slice())?;
-    let facts = kinds_of(alloc, hierarchy, subject, heights, moves.as_slice())?;
+    let facts = kinds_in_order(alloc, hierarchy, subject, heights)?;
     add_kind_faults(
         alloc,
         hierarchy,

@@ -91,7 +91,8 @@ fn leave(
     Ok(())
 }
 
-fn leave_at(
+/// The steps from a pc, where it has a height.
+pub fn leave_at(
     alloc: Global,
     subject: &Subject<'_>,
     heights: &[Option<u16>],

@@ -1,24 +1,20 @@
-use Rattle.std.proofs.Common.{rules, ◌≡◌, false, List, sym, subst}
-use Rattle.jvm_typing.specs.KindPasses.{Item, items_of, ClosedFor}
+use Rattle.std.proofs.Common.{rules, ◌≡◌, Some, None}
+use Rattle.std.specs.Prelude.{slice_get}
 use Rattle.typing_heights.specs.Subjects.{program_of, typable_of}
-use Rattle.jvm_typing.proofs.FlowLemmas.{starts_hold}
-use Rattle.jvm_typing.proofs.KindLemmas.{are_kinds}
+use Rattle.jvm_typing.specs.KindPasses.{item_in, items_of}
+use Rattle.jvm_typing.proofs.FlowLemmas.{found_more, found_kinds}
+use Rattle.jvm_typing.proofs.BehindLemmas.{item_at, no_item_at}
 use Rattle.jvm_typing.proofs.flows.kinds_of.Goals as goal
 
-pub loop-init : goal.loop-init
-loop-init c =
+pub loop-number-preserved : goal.loop-number-preserved
+loop-number-preserved c =
     let s = c.args.subject.now in
-    record {
-      sound = λ x among. starts_hold (program_of s) (typable_of s) c.args.heights.now c.requires.heights x ((c.in_ok-facts.ensures x).0 among);
-      starts = λ x is. (c.in_ok-facts.ensures x).1 is;
-    }
+    let at : slice_get c.loop-number.facts c.loop-number.number ≡ Some c.in-Some.fact = search rules in
+    found_more (program_of s) (typable_of s) c.args.heights.now c.requires.heights c.loop-number.number (items_of c.loop-number.facts) (items_of c.carry_on.new.facts) (item_in c.in-Some.fact)
+    (item_at c.loop-number.facts c.loop-number.number c.in-Some.fact at) c.in_ok-carry_on-in-Some.ensures c.loop-number.invariant
 
-pub returns-then-not-branch : goal.returns-then-not-branch
-returns-then-not-branch c =
+pub returns-in-None : goal.returns-in-None
+returns-in-None c =
     let s = c.args.subject.now in
-    let p = program_of s in
-    let t = typable_of s in
-    let none : c.in_ok-round.field-0 ≡ false = search rules in
-    let spreads = c.in_ok-round.ensures in
-    are_kinds p t c.args.heights.now c.requires.heights (items_of c.round.new.facts) c.args.moves.now c.requires.moves (spreads.sound c.loop.invariant.sound) (λ x is. spreads.kept x (c.loop.invariant.starts x is))
-    (subst (λ (items : List Item). ClosedFor p t c.args.heights.now c.args.moves.now items) (sym (spreads.still none)) (spreads.full none))
+    let past : slice_get c.loop-number.facts c.loop-number.number ≡ None = search rules in
+    found_kinds (program_of s) (typable_of s) c.args.heights.now c.requires.heights c.loop-number.number (items_of c.loop-number.facts) (no_item_at c.loop-number.facts c.loop-number.number past) c.loop-number.invariant

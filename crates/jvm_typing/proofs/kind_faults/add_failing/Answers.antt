@@ -13,8 +13,8 @@ returns-then-not-place_fails c =
     let p = program_of s in
     let t = typable_of s in
     let fact = c.args.fact.now in
-    let test : place_fails p s.code.now.max_locals (effect_in c.in_ok-effect.effect) fact.place (kind_in fact.kind) ≡ false = search rules in
-    not_failing p t (Contains c.args.found.now.items) fact (ap (λ (e : Effect). place_fails p s.code.now.max_locals e fact.place (kind_in fact.kind)) (sym c.in_ok-effect.ensures) ∙ test)
+    let test : place_fails p s.code.now.max_locals (effect_in c.args.asked.now.effect) fact.place (kind_in fact.kind) ≡ false = search rules in
+    not_failing p t (Contains c.args.found.now.items) fact (ap (λ (e : Effect). place_fails p s.code.now.max_locals e fact.place (kind_in fact.kind)) (sym c.requires.asked.same_effect) ∙ test)
 
 pub returns : goal.returns
 returns c =
@@ -22,6 +22,6 @@ returns c =
     let p = program_of s in
     let t = typable_of s in
     let fact = c.args.fact.now in
-    let test : place_fails p s.code.now.max_locals (effect_in c.in_ok-effect.effect) fact.place (kind_in fact.kind) ≡ true = search rules in
+    let test : place_fails p s.code.now.max_locals (effect_in c.args.asked.now.effect) fact.place (kind_in fact.kind) ≡ true = search rules in
     failing_added p t (Contains c.args.found.now.items) (Contains c.add_fault.new.found.items) fact
-    (ap (λ (e : Effect). place_fails p s.code.now.max_locals e fact.place (kind_in fact.kind)) (sym c.in_ok-effect.ensures) ∙ test) c.in_ok-add_fault.ensures
+    (ap (λ (e : Effect). place_fails p s.code.now.max_locals e fact.place (kind_in fact.kind)) (sym c.requires.asked.same_effect) ∙ test) c.in_ok-add_fault.ensures

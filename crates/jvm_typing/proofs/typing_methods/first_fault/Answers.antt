@@ -14,8 +14,8 @@ returns c =
     let p = program_of s in
     let t = typable_of s in
     let heights = c.args.heights.now in
-    let facts = c.in_ok-facts.facts in
-    let adds = subst (λ (fs : List Fact). Adds (Contains c.in_ok-found.found.items) (Contains c.add_kind_faults.new.found.items) (IsKindFault p t heights fs)) c.as_slice-3.ensures c.in_ok-add_kind_faults.ensures in
+    let facts = c.in_ok-facts.facts.items in
+    let adds = subst (λ (fs : List Fact). Adds (Contains c.in_ok-found.found.items) (Contains c.add_kind_faults.new.found.items) (IsKindFault p t heights fs)) c.as_slice-2.ensures.value c.in_ok-add_kind_faults.ensures in
     first_answer p s.number t (refl, c.requires.subject.found, c.requires.subject.has_code) heights c.requires.heights facts c.in_ok-facts.ensures c.add_kind_faults.new.found.items
     (joined p t heights facts c.in_ok-found.found.items c.add_kind_faults.new.found.items c.in_ok-found.ensures adds) c.first_of.result
-    (subst (λ (l : List TypeFault). IsFirstOf l c.first_of.result) c.as_slice-4.ensures.value c.first_of.ensures)
+    (subst (λ (l : List TypeFault). IsFirstOf l c.first_of.result) c.as_slice-3.ensures.value c.first_of.ensures)

@@ -1,4 +1,4 @@
-use Rattle.std.proofs.Common.{rules, ◌≡◌, ℕ, ◌<◌, List, [], ◌∷◌, ◌++◌, length, get_or, set, sym, subst, ◌∙◌, ap}
+use Rattle.std.proofs.Common.{rules, ◌≡◌, ℕ, ◌<◌, List, [], ◌∷◌, ◌++◌, length, get_or, set, sym, subst}
 use Rattle.jvm_typing.specs.declared.facts.Fact.{Fact}
 use Rattle.jvm_typing.specs.Slots.{slot_of, AreListed}
 use Rattle.jvm_typing.proofs.SlotLemmas.{still_listed, more_listed}
