@@ -157,7 +157,7 @@ fn check_program(alloc: Global, program: &Program, policy: &[u8]) -> Result<Answ
     };
     match type_methods(alloc, program, &hierarchy) {
         Ok(()) => (),
-        Err(stop) => return Err(stop),
+        Err(untyped) => return Err(untyped),
     }
     let policy = match policy_for(alloc, program, &hierarchy, policy) {
         Ok(policy) => policy,

@@ -5,7 +5,7 @@ use Rattle.joana_top.proofs.Outcomes.{refused_typing, refused_policy, decided}
 use Rattle.joana_top.proofs.commands.check.check_program.Goals as goal
 
 pub returns-in-Err : goal.returns-in-Err
-returns-in-Err c = refused_typing c.args.program.now c.args.policy.now c.in-Err.stop c.in-Err.ensures.stop
+returns-in-Err c = refused_typing c.args.program.now c.args.policy.now c.in-Err.untyped c.in-Err.ensures.stop
 
 pub returns-in-Err-policy_for : goal.returns-in-Err-policy_for
 returns-in-Err-policy_for c = refused_policy c.args.program.now c.args.policy.now c.in-Ok-type_methods.ensures.typed c.in-Err-policy_for.stop c.in-Err-policy_for.ensures.stop
