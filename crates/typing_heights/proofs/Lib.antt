@@ -13,6 +13,7 @@ pub mod VisitLemmas
 pub mod HeightLemmas
 pub mod AddsLemmas
 pub mod MoveLemmas
+pub mod GaugeLemmas
 pub mod FaultLemmas
 pub mod ArrivalLemmas
 pub mod AnswerLemmas

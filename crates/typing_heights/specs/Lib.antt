@@ -6,5 +6,6 @@ pub mod Spots
 pub mod Spreads
 pub mod Adds
 pub mod Moves
+pub mod Gauges
 pub mod FirstFaults
 pub mod HeightFaults

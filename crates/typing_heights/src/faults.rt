@@ -4,50 +4,20 @@ ghost use Rattle.jo_prog.specs.declared.typed.TypeFault.{TypeFault};
 ghost use Rattle.jo_prog.specs.TypingPaths;
 ghost use Rattle.typing_heights.specs.Adds.{Adds, From};
 ghost use Rattle.typing_heights.specs.Moves.{other_height, height_fault, Tells, FaultAt, IsHeightFault, FaultBehind, IsMove};
-ghost use Rattle.typing_heights.specs.FirstFaults.{key_of, IsFirstOf, IsSooner, is_outside};
+ghost use Rattle.typing_heights.specs.FirstFaults.{key_of, IsFirstOf, IsSooner};
 ghost use Rattle.typing_heights.specs.Searches.{height_at};
-ghost use Rattle.typing_heights.specs.Spots.{IsSpot};
+ghost use Rattle.typing_heights.specs.Gauges.{IsGauge, AreGauges};
 ghost use Rattle.typing_heights.specs.declared.moves.Move.{Move};
 ghost use Rattle.typing_heights.specs.Subjects.{program_of, typable_of, IsSubject};
 
+use crate::gauges::{Gauge, gauge_for, gauges_of};
 use crate::moves::Move;
 use crate::search::known_height;
-use crate::spots::{Spot, grows_over, handlers_outside, lacks, spot_at};
+use crate::spots::{lacks, rises_over};
 use crate::subjects::Subject;
 use jo_ids::Memory;
-use jo_prog::program::Code;
 use jo_prog::typed::{TypeCode, TypeFault};
 use std::alloc::Global;
-
-fn is_outside(code: &Code, local: Option<u16>) -> bool
-    ensures { result ≡ is_outside code.now.max_locals local }
-{
-    match local {
-        Some(local) => code.max_locals <= local,
-        None => false,
-    }
-}
-
-/// Whether the method has no local that the instruction reads or writes.
-fn out_of_range(subject: &Subject<'_>, spot: &Spot, pc: u32) -> bool
-    requires { IsSpot (program_of subject.now) (typable_of subject.now) pc spot.now }
-    ensures { result ≡ TypingPaths.out_of_range (program_of subject.now) (typable_of subject.now) pc }
-{
-    let reads = is_outside(subject.code, spot.size.reads);
-    let writes = is_outside(subject.code, spot.size.writes);
-    reads || writes
-}
-
-fn falls_off(subject: &Subject<'_>, spot: &Spot, pc: u32) -> bool
-    requires { IsSpot (program_of subject.now) (typable_of subject.now) pc spot.now }
-    ensures { result ≡ TypingPaths.falls_off subject.now.code.now pc }
-{
-    let outside = handlers_outside(subject.code, pc);
-    match &spot.plain {
-        Some(_) => outside,
-        None => true,
-    }
-}
 
 pub fn differs(heights: &[Option<u16>], pc: u32, height: u16) -> bool
     ensures { result ≡ other_height (height_at heights.now pc) height }
@@ -58,40 +28,40 @@ pub fn differs(heights: &[Option<u16>], pc: u32, height: u16) -> bool
     }
 }
 
-fn lacks_at(subject: &Subject<'_>, spot: &Spot, pc: u32, height: u16) -> bool
-    requires { IsSpot (program_of subject.now) (typable_of subject.now) pc spot.now }
+fn lacks_at(subject: &Subject<'_>, gauge: &Gauge, pc: u32, height: u16) -> bool
+    requires { IsGauge (program_of subject.now) (typable_of subject.now) pc gauge.now }
     ensures { result ≡ TypingPaths.underflows (program_of subject.now) (typable_of subject.now) pc height }
 {
-    lacks(&spot.size, height)
+    lacks(&gauge.size, height)
 }
 
-fn grows_over_at(subject: &Subject<'_>, spot: &Spot, pc: u32, height: u16) -> bool
-    requires { IsSpot (program_of subject.now) (typable_of subject.now) pc spot.now }
+fn rises_over_at(subject: &Subject<'_>, gauge: &Gauge, pc: u32, height: u16) -> bool
+    requires { IsGauge (program_of subject.now) (typable_of subject.now) pc gauge.now }
     ensures { result ≡ TypingPaths.overflows (program_of subject.now) (typable_of subject.now) pc height }
 {
-    grows_over(subject.code, &spot.size, pc, height)
+    rises_over(subject.code, &gauge.size, gauge.covered, height)
 }
 
 /// The first fault that heights alone tell, of a path that arrives at the pc with this height.
 fn fault_at(
     subject: &Subject<'_>,
     heights: &[Option<u16>],
-    spot: &Spot,
+    gauge: &Gauge,
     pc: u32,
     height: u16,
 ) -> Option<TypeCode>
-    requires { IsSpot (program_of subject.now) (typable_of subject.now) pc spot.now }
+    requires { IsGauge (program_of subject.now) (typable_of subject.now) pc gauge.now }
     ensures { result ≡ height_fault (program_of subject.now) (typable_of subject.now) heights.now pc height }
 {
-    if lacks_at(subject, spot, pc, height) {
+    if lacks_at(subject, gauge, pc, height) {
         Some(TypeCode::Underflow)
-    } else if grows_over_at(subject, spot, pc, height) {
+    } else if rises_over_at(subject, gauge, pc, height) {
         Some(TypeCode::Overflow)
     } else if differs(heights, pc, height) {
         Some(TypeCode::HeightDiffers)
-    } else if falls_off(subject, spot, pc) {
+    } else if gauge.falls_off {
         Some(TypeCode::FallsOff)
-    } else if out_of_range(subject, spot, pc) {
+    } else if gauge.out_of_range {
         Some(TypeCode::LocalRange)
     } else {
         None
@@ -114,15 +84,17 @@ fn arrive(
     alloc: Global,
     subject: &Subject<'_>,
     heights: &[Option<u16>],
+    gauges: &[Option<Gauge>],
     found: &mut Vec<TypeFault>,
     pc: u32,
     height: u16,
 ) -> Result<(), Memory>
-    requires { IsSubject subject.now }
+    requires subject { IsSubject subject.now }
+    requires gauges { AreGauges (program_of subject.now) (typable_of subject.now) gauges.now }
     ensures { OnOk result (Adds (Contains found.old.items) (Contains found.new.items) (FaultAt (program_of subject.now) (typable_of subject.now) heights.now pc height)) }
 {
-    let spot = spot_at(alloc, subject, pc)?;
-    let code = fault_at(subject, heights, &spot, pc, height);
+    let gauge = gauge_for(alloc, subject, gauges, pc)?;
+    let code = fault_at(subject, heights, &gauge, pc, height);
     add_fault(found, pc, code)?;
     Ok(())
 }
@@ -138,10 +110,20 @@ pub fn height_faults(
     requires moves { (m : Move) → Contains moves.now m ↔ IsMove (program_of subject.now) (typable_of subject.now) heights.now m }
     ensures { IfOk result (λ found. (f : TypeFault) → Contains found.items f ↔ IsHeightFault (program_of subject.now) (typable_of subject.now) heights.now f) }
 {
+    let gauges = gauges_of(alloc, subject, heights)?;
+    let gauges = gauges.as_slice();
     let mut found = Vec::new(alloc);
-    arrive(alloc, subject, heights, &mut found, 0, 0)?;
+    arrive(alloc, subject, heights, gauges, &mut found, 0, 0)?;
     for step in moves {
-        arrive(alloc, subject, heights, &mut found, step.to, step.height)?;
+        arrive(
+            alloc,
+            subject,
+            heights,
+            gauges,
+            &mut found,
+            step.to,
+            step.height,
+        )?;
     }
     Ok(found)
 }

@@ -5,6 +5,7 @@
 #![tactic(auto)]
 
 pub mod faults;
+mod gauges;
 pub mod heights;
 pub mod laws;
 mod marks;

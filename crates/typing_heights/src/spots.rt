@@ -122,7 +122,8 @@ pub fn covers(pc: u32, row: &Row) -> bool
     u32::from(row.start) <= pc && pc < u32::from(row.end)
 }
 
-fn is_covered(code: &Code, pc: u32) -> bool
+/// Whether a row covers the pc.
+pub(crate) fn is_covered(code: &Code, pc: u32) -> bool
     ensures { result ≡ TypingPaths.is_covered code.now pc }
 {
     code.rows.as_slice().iter().any(|row| covers(pc, row))
@@ -158,15 +159,21 @@ pub(crate) fn lacks(size: &Size, height: u16) -> bool
     usize::from(height) < size.pops
 }
 
-/// Whether the stack is then over its bound, a handler's included.
-pub(crate) fn grows_over(code: &Code, size: &Size, pc: u32, height: u16) -> bool
-    ensures value { result ≡ grows_over code.now size.now pc height }
+/// Whether the stack is then over its bound, a handler's included where a row covers the pc.
+pub(crate) fn rises_over(code: &Code, size: &Size, covered: bool, height: u16) -> bool
+    ensures value { result ≡ (nat_lt code.now.max_stack (Sizes.grown size.now height) || (covered && code.now.max_stack == 0)) }
     ensures fits { result ≡ false → Sizes.grown size.now height < 2 ^ 16 }
 {
     let max_stack = code.max_stack;
     let over = usize::from(max_stack) < grown(size, height);
-    let covered = is_covered(code, pc);
     over || (covered && max_stack == 0)
+}
+
+fn grows_over(code: &Code, size: &Size, pc: u32, height: u16) -> bool
+    ensures value { result ≡ grows_over code.now size.now pc height }
+    ensures fits { result ≡ false → Sizes.grown size.now height < 2 ^ 16 }
+{
+    rises_over(code, size, is_covered(code, pc), height)
 }
 
 fn fitted(size: &Size, height: u16) -> u16

@@ -1,0 +1,2 @@
+class C super java/lang/Object flags 0x0021
+implements I

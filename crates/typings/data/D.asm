@@ -1,0 +1,1 @@
+class D super B flags 0x0021

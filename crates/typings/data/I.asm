@@ -1,0 +1,1 @@
+class I super java/lang/Object flags 0x0601
