@@ -2,5 +2,7 @@
 #![tactic(auto)]
 
 mod resolved;
+mod strings;
 
 pub use resolved::{Case, Instruction, Resolved};
+pub use strings::Strings;
