@@ -1,1 +1,4 @@
 pub mod StringLemmas
+mod PlainLemmas
+mod SwitchLemmas
+mod OperandLemmas
