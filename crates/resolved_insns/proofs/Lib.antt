@@ -2,3 +2,4 @@ pub mod StringLemmas
 mod PlainLemmas
 mod SwitchLemmas
 mod OperandLemmas
+pub mod TableLemmas

@@ -1,5 +1,5 @@
 -- Operands that are named, and the texts among them.
-use Rattle.std.proofs.Common.{◌≡◌, ◌∙◌, sym, ap, refl, ℕ, zero, suc, ◌+◌, List, [], ◌∷◌, ◌++◌, length, Option, Some, None, option_and_then, slice_get, arith}
+use Rattle.std.proofs.Common.{◌≡◌, ◌∙◌, ap, refl, ℕ, zero, suc, List, [], ◌∷◌, ◌++◌, Option, Some, None, option_and_then, slice_get}
 use Rattle.std.specs.List.{flat_map}
 use Rattle.std.proofs.lemmas.Option.{none-some, same_Some}
 use Rattle.jo_text.specs.declared.descriptors.FieldDesc.{FieldDesc}
@@ -9,7 +9,6 @@ use Rattle.jo_prog.specs.declared.program.Class.{Class}
 use Rattle.jo_prog.specs.declared.program.Field.{Field}
 use Rattle.jo_prog.specs.declared.program.Method.{Method}
 use Rattle.jo_prog.specs.declared.program.MemberRef.{MemberRef}
-use Rattle.jo_prog.specs.declared.program.Operand.{Operand}
 use Rattle.jo_prog.specs.declared.program.Operand.TheVariants.{Text}
 use Rattle.jo_prog.specs.Constants.{text_of, constant_text, texts_of, string_address}
 use Rattle.jo_prog.specs.MethodTypes.{field_desc_in, method_desc_in}
@@ -54,6 +53,7 @@ text_has_address program m index text each is = by_method (method_at program m) 
     by_class : (c : ℕ) (class : Option Class) → class_at program c ≡ class → option_and_then (λ (class : Class). slice_get class.operands index) class ≡ Some (Text text) → (address : ℕ) × (string_address program text ≡ Some address)
     by_class c None at e = absurd (none-some (Text text) e)
     by_class c (Some class) at e = of_class program c class index text each at e
+
     by_method : (method : Option Method) → option_and_then (λ (class : Class). slice_get class.operands index) (option_and_then (λ (method : Method). class_at program method.class) method) ≡ Some (Text text) → (address : ℕ) × (string_address program text ≡ Some address)
     by_method None e = absurd (none-some (Text text) e)
     by_method (Some method) e = by_class method.class (class_at program method.class) refl e

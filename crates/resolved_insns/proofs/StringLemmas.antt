@@ -1,11 +1,10 @@
 -- Distinct texts, one after another.
-use Rattle.std.proofs.Common.{◌≡◌, ◌∙◌, sym, ap, refl, subst, ℕ, zero, suc, ◌+◌, Bool, true, false, not, ◌||◌, cond, List, [], ◌∷◌, ◌++◌, length, filter, map, Option, Some, None, Vec, Global, append-nil, arith, inl, inr}
+use Rattle.std.proofs.Common.{◌≡◌, ◌∙◌, sym, ap, refl, ℕ, suc, ◌+◌, Bool, true, false, not, ◌||◌, cond, List, [], ◌∷◌, ◌++◌, filter, map, Option, Some, None, Vec, Global, append-nil, arith}
 use Rattle.std.specs.Prelude.{option_map}
 use Rattle.std.specs.List.{list_any, position, position_from}
 use Rattle.std.specs.Str.{bytes_eq}
 use Rattle.std.proofs.lemmas.Slice.Eq.{bytes_eq-Decides}
 use Rattle.std.proofs.lemmas.Iterator.Adapters.{position_from-zero}
-use Rattle.indexmap.specs.IndexSet.{insert_key}
 use Rattle.jo_prog.specs.Constants.{distinct, place_of}
 use Rattle.resolved_insns.specs.Strings.{key_text}
 
@@ -96,6 +95,7 @@ place_behind text n (key ∷ keys) = by_test (bytes_eq text key.items) refl (pla
     further : (o : Option ℕ) → option_map (λ k. (n + 1) + k) o ≡ option_map (λ k. n + k) (option_map (λ k. suc k) o)
     further None = refl
     further (Some k) = ap (λ m. Some m) (omega arith)
+
     by_test : (b : Bool) → bytes_eq text key.items ≡ b → position_from (λ (k : Vec ℕ Global). bytes_eq text k.items) (n + 1) keys ≡ option_map (λ k. (n + 1) + k) (place_of text (map key_text keys)) → position_from (λ (k : Vec ℕ Global). bytes_eq text k.items) n (key ∷ keys) ≡ option_map (λ k. n + k) (place_of text (map key_text (key ∷ keys)))
     by_test true is behind = rw (turned key.items text, is) (ap (λ m. Some m) (omega arith))
     by_test false is behind = rw (turned key.items text, is) (behind ∙ further (place_of text (map key_text keys)))

@@ -7,6 +7,8 @@ mod resolved;
 mod resolving;
 mod strings;
 mod switches;
+mod table;
 
 pub use resolved::{Case, Instruction, Resolved};
 pub use strings::Strings;
+pub use table::Instructions;

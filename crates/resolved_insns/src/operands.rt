@@ -75,7 +75,12 @@ fn element_type(alloc: Global, program: &Program, named: &TypeRef) -> Result<Fie
     }
 }
 
-fn of_type(alloc: Global, program: &Program, op: u8, named: &TypeRef) -> Result<Option<Instruction>, Memory>
+fn of_type(
+    alloc: Global,
+    program: &Program,
+    op: u8,
+    named: &TypeRef,
+) -> Result<Option<Instruction>, Memory>
     ensures { IfOk result (IsSeen program.now (machine.names_type program.now op named.now)) }
 {
     // no array is made by new
@@ -129,7 +134,13 @@ fn field_instruction(op: u8, field: FieldId, desc: FieldDesc) -> Instruction
     }
 }
 
-fn of_field(alloc: Global, program: &Program, hierarchy: &Hierarchy, op: u8, member: &MemberRef) -> Result<Option<Instruction>, Memory>
+fn of_field(
+    alloc: Global,
+    program: &Program,
+    hierarchy: &Hierarchy,
+    op: u8,
+    member: &MemberRef,
+) -> Result<Option<Instruction>, Memory>
     requires { IsHierarchyOf program.now hierarchy.now }
     ensures { IfOk result (IsSeen program.now (machine.names_field program.now op member.now)) }
 {
@@ -179,7 +190,13 @@ fn values_taken(op: u8, desc: &MethodDesc) -> Result<u32, Memory>
     count.checked_add(1).ok_or(AllocError)
 }
 
-fn call_of(alloc: Global, op: u8, owner: &TypeRef, method: MethodId, desc: &MethodDesc) -> Result<Instruction, Memory>
+fn call_of(
+    alloc: Global,
+    op: u8,
+    owner: &TypeRef,
+    method: MethodId,
+    desc: &MethodDesc,
+) -> Result<Instruction, Memory>
     ensures { IfOk result (λ found. (program : OfProgram) → IsSeen program (Some (machine.calls op owner.now method (machine.values_taken op desc.now))) (Some found)) }
 {
     let owner = copy_type(alloc, owner)?;
@@ -192,7 +209,13 @@ fn call_of(alloc: Global, op: u8, owner: &TypeRef, method: MethodId, desc: &Meth
     })
 }
 
-fn of_method(alloc: Global, program: &Program, hierarchy: &Hierarchy, op: u8, member: &MemberRef) -> Result<Option<Instruction>, Memory>
+fn of_method(
+    alloc: Global,
+    program: &Program,
+    hierarchy: &Hierarchy,
+    op: u8,
+    member: &MemberRef,
+) -> Result<Option<Instruction>, Memory>
     requires { IsHierarchyOf program.now hierarchy.now }
     ensures { IfOk result (IsSeen program.now (machine.names_method program.now op member.now)) }
 {
@@ -210,7 +233,13 @@ fn of_method(alloc: Global, program: &Program, hierarchy: &Hierarchy, op: u8, me
     }
 }
 
-fn of_member(alloc: Global, program: &Program, hierarchy: &Hierarchy, op: u8, member: &MemberRef) -> Result<Option<Instruction>, Memory>
+fn of_member(
+    alloc: Global,
+    program: &Program,
+    hierarchy: &Hierarchy,
+    op: u8,
+    member: &MemberRef,
+) -> Result<Option<Instruction>, Memory>
     requires { IsHierarchyOf program.now hierarchy.now }
     ensures { IfOk result (IsSeen program.now (machine.names_member program.now op member.now)) }
 {

@@ -43,7 +43,11 @@ fn desc_of(alloc: Global, program: &Program, method: MethodId) -> Result<Option<
 }
 
 /// Where a method returns a value.
-fn returned(alloc: Global, program: &Program, method: MethodId) -> Result<Option<Instruction>, Memory>
+fn returned(
+    alloc: Global,
+    program: &Program,
+    method: MethodId,
+) -> Result<Option<Instruction>, Memory>
     ensures { IfOk result (IsSeen program.now (machine.returned (machine.result_of (machine.method_desc (method_with program.now method))))) }
 {
     let desc = desc_of(alloc, program, method)?;
@@ -116,7 +120,12 @@ fn plain_form(op: u8) -> Option<Instruction>
 }
 
 /// An instruction of one byte.
-pub(crate) fn plain(alloc: Global, program: &Program, method: MethodId, op: u8) -> Result<Option<Instruction>, Memory>
+pub(crate) fn plain(
+    alloc: Global,
+    program: &Program,
+    method: MethodId,
+    op: u8,
+) -> Result<Option<Instruction>, Memory>
     ensures { IfOk result (IsSeen program.now (machine.plain_instruction (machine.method_desc (method_with program.now method)) op)) }
 {
     if op == 172 || op == 176 {

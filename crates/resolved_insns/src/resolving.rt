@@ -34,7 +34,16 @@ fn kind_type(kind: u8) -> FieldDesc
     FieldDesc { dims: 0, base }
 }
 
-fn table_switch(alloc: Global, code: &[u8], pc: u32, next: u32, other: i32, low: i32, high: i32, at: u32) -> Result<Instruction, Memory>
+fn table_switch(
+    alloc: Global,
+    code: &[u8],
+    pc: u32,
+    next: u32,
+    other: i32,
+    low: i32,
+    high: i32,
+    at: u32,
+) -> Result<Instruction, Memory>
     requires short { length code.now < 2 ^ 16 }
     requires place { pc < 2 ^ 16 }
     requires placed { IsPlacedIn code.now (record { pc = pc; insn = TableSwitch other low high at; next = next }) }
@@ -45,7 +54,15 @@ fn table_switch(alloc: Global, code: &[u8], pc: u32, next: u32, other: i32, low:
     Ok(Instruction::Switches(cases, pc_behind(pc, other)))
 }
 
-fn lookup_switch(alloc: Global, code: &[u8], pc: u32, next: u32, other: i32, pairs: u32, at: u32) -> Result<Instruction, Memory>
+fn lookup_switch(
+    alloc: Global,
+    code: &[u8],
+    pc: u32,
+    next: u32,
+    other: i32,
+    pairs: u32,
+    at: u32,
+) -> Result<Instruction, Memory>
     requires short { length code.now < 2 ^ 16 }
     requires place { pc < 2 ^ 16 }
     requires placed { IsPlacedIn code.now (record { pc = pc; insn = LookupSwitch other pairs at; next = next }) }

@@ -42,7 +42,13 @@ fn key_at(low: i32, place: u64) -> i32
 }
 
 /// The cases of so many keys in a row.
-pub(crate) fn cases_in_row(alloc: Global, pc: u32, low: i32, count: u64, table: &[u8]) -> Result<List<Case>, Memory>
+pub(crate) fn cases_in_row(
+    alloc: Global,
+    pc: u32,
+    low: i32,
+    count: u64,
+    table: &[u8],
+) -> Result<List<Case>, Memory>
     requires short { pc < 2 ^ 16 }
     requires keys { (low +ℤ pos count) ≤ℤ pos (2 ^ 31) }
     requires offsets { AreOffsets count 4 table.now }
@@ -58,7 +64,13 @@ pub(crate) fn cases_in_row(alloc: Global, pc: u32, low: i32, count: u64, table: 
 }
 
 /// The cases of so many pairs of a key and an offset.
-pub(crate) fn cases_of_pairs(alloc: Global, pc: u32, count: u32, keys: &[u8], offsets: &[u8]) -> Result<List<Case>, Memory>
+pub(crate) fn cases_of_pairs(
+    alloc: Global,
+    pc: u32,
+    count: u32,
+    keys: &[u8],
+    offsets: &[u8],
+) -> Result<List<Case>, Memory>
     requires short { pc < 2 ^ 16 }
     requires keys { AreOffsets count 8 keys.now }
     requires offsets { AreOffsets count 8 offsets.now }

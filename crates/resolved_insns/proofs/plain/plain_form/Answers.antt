@@ -1,6 +1,5 @@
-use Rattle.std.proofs.Common.{rules, ◌≡◌, sym, subst, false, ◌==◌, Option}
-use Rattle.jo_prog.specs.Operations.{within}
-use Rattle.machine.specs.Instructions.{Instruction, is_element_load, is_element_store}
+use Rattle.std.proofs.Common.{rules, sym, subst, Option}
+use Rattle.machine.specs.Instructions.{Instruction}
 use Rattle.resolved_insns.specs.Resolved.{IsSeen}
 use Rattle.resolved_insns.proofs.PlainLemmas.{behind_stores}
 use Rattle.resolved_insns.proofs.plain.plain_form.Goals as goal

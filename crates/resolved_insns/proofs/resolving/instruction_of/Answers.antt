@@ -1,4 +1,4 @@
-use Rattle.std.proofs.Common.{rules, ◌≡◌, ℕ, sym, subst, Some, w32, to_z, of_z}
+use Rattle.std.proofs.Common.{rules, ◌≡◌, ℕ, sym, subst, Some, w32}
 use Rattle.std.proofs.lemmas.Int.{to_z-of_z}
 use Rattle.jo_insn.specs.declared.instructions.Insn.{Insn}
 use Rattle.jo_insn.specs.declared.instructions.Insn.TheVariants.{TableSwitch, LookupSwitch}

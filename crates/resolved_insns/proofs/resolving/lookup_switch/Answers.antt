@@ -1,4 +1,4 @@
-use Rattle.std.proofs.Common.{ℕ, ◌+◌, drop, arith}
+use Rattle.std.proofs.Common.{◌+◌, drop, arith}
 use Rattle.std.proofs.lemmas.List.{length-drop}
 use Rattle.jo_insn.proofs.SwitchTables.{pairs_end, eight_apart}
 use Rattle.resolved_insns.proofs.resolving.lookup_switch.Goals as goal

@@ -1,4 +1,4 @@
-use Rattle.std.proofs.Common.{◌≡◌, ℕ, drop, arith, w32, to_z, of_z}
+use Rattle.std.proofs.Common.{ℕ, drop, arith, w32}
 use Rattle.std.proofs.lemmas.Int.{to_z-of_z}
 use Rattle.std.proofs.lemmas.List.{length-drop}
 use Rattle.jo_insn.specs.declared.instructions.Insn.TheVariants.{TableSwitch}

@@ -1,4 +1,4 @@
-use Rattle.std.proofs.Common.{◌≡◌, ◌∙◌, ap}
+use Rattle.std.proofs.Common.{◌∙◌, ap}
 use Rattle.jo_prog.specs.Constants.{place_of}
 use Rattle.resolved_insns.proofs.StringLemmas.{place_is}
 use Rattle.resolved_insns.proofs.strings.Strings.address.Goals as goal

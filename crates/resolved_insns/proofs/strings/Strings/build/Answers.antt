@@ -1,6 +1,6 @@
-use Rattle.std.proofs.Common.{◌≡◌, ◌∙◌, ◌<◌, ap, length, arith}
+use Rattle.std.proofs.Common.{◌≡◌, ◌∙◌, ap, arith}
 use Rattle.jo_prog.specs.Constants.{texts_of, distinct, string_constants}
-use Rattle.resolved_insns.specs.Strings.{lent, texts_in}
+use Rattle.resolved_insns.specs.Strings.{lent}
 use Rattle.resolved_insns.proofs.strings.Strings.build.Goals as goal
 
 pub returns : goal.returns
