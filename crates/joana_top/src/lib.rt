@@ -2,10 +2,8 @@
 #![tactic(auto)]
 
 mod commands;
-mod process;
 mod top;
 mod words;
 
 pub use joana_base::{InputFault, LimitKind, LinkKind, OutsideFault, Status};
-pub use process::run;
 pub use top::joana;
