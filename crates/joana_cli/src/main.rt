@@ -1,8 +1,10 @@
 //! The program `joana`: an information flow checker for Java class files.
 #![tactic(auto)]
 
+mod process;
+
 use std::process::ExitCode;
 
 fn main(rt: HostRuntime) -> ExitCode {
-    joana_top::run(rt)
+    process::run(rt)
 }

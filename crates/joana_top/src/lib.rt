@@ -2,12 +2,10 @@
 #![tactic(auto)]
 
 mod commands;
-mod process;
 mod top;
 mod words;
 
 pub use joana_base::{
     InputFault, LimitKind, LinkKind, OutsideFault, Status, TypingFault, TypingKind,
 };
-pub use process::run;
 pub use top::joana;

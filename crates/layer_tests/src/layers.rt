@@ -1,15 +1,16 @@
 //! A policy is read, methods and nodes are spelled, the class is typed and run.
+use crate::given::{add, gives, plain, shown};
 use chain_report::nodes::push_node;
 use class_read::read_class;
 use dep_nodes::{NodeKind, NodeName, SiteList};
 use hierarchy::{Hierarchy, has_its_parents};
-use jo_ids::{Id, List, Memory, MethodId};
+use jo_ids::{Id, List, Memory};
 use jo_policy::{Policy, PolicyFault, read_policy};
 use jo_prog::jvm_typing::{is_plain, is_typed};
-use jo_prog::labels::{Label, Labels};
+use jo_prog::labels::Labels;
 use jo_prog::program::Program;
 use jo_prog::runner::run;
-use jo_prog::runs::{Event, Inputs, SourceInput, Trace};
+use jo_prog::runs::Inputs;
 use jo_prog::spelling::push_method;
 use linker::link;
 use samples::worked_class;
@@ -36,14 +37,6 @@ const ENTRY: &str = "entry = \"Main.main()V\"";
 const SOURCES: &str = "\"Main.secret()I\" = \"high\"\n\"Main.get()I\" = \"low\"";
 
 const SINKS: &str = "\"Main.show(I)V\" = \"low\"";
-
-fn plain(item: &(MethodId, Label)) -> (u32, &'static str, u32) {
-    match item.1 {
-        Label::Source(level) => (item.0.number(), "source", level.number()),
-        Label::Sink(level) => (item.0.number(), "sink", level.number()),
-        Label::Release { from, to: _ } => (item.0.number(), "release", from.number()),
-    }
-}
 
 // The policy that a text gives the program, which has 24 classes and 51 methods; none where it has a fault.
 fn read(
@@ -225,34 +218,6 @@ fn methods_and_nodes_are_spelled(rt: HostRuntime) -> Result<(), Fail> {
     Ok(())
 }
 
-fn add<T: Drop>(list: &mut List<T>, item: T) -> Result<(), Memory> {
-    match list.push(item) {
-        Ok(()) => Ok(()),
-        Err((_item, memory)) => Err(memory),
-    }
-}
-
-// A source gives the int, if there is one.
-fn gives(alloc: Global, source: u32, value: Option<i32>) -> Result<SourceInput, Memory> {
-    let mut values = List::new(alloc);
-    if let Some(value) = value {
-        add(&mut values, value)?;
-    }
-    Ok(SourceInput {
-        source: Id::of(source),
-        values,
-    })
-}
-
-// What a trace shows, if it is at most one event: the sink's number and the int.
-fn shown(trace: &Trace) -> Result<Option<(u32, i32)>, Fail> {
-    match trace.events.as_slice() {
-        [] => Ok(None),
-        [Event::Out { sink, value }] => Ok(Some((sink.number(), *value))),
-        _ => Err("more than one event, or a release")?,
-    }
-}
-
 // What a run shows where get gives the int, if there is one, and secret gives 7, and whether it ended.
 fn outcome(
     alloc: Global,
@@ -265,7 +230,8 @@ fn outcome(
     add(&mut inputs, gives(alloc, 48, got)?)?;
     add(&mut inputs, gives(alloc, 47, Some(7))?)?;
     let trace = run(alloc, program, labels, &inputs, schedule)?;
-    Ok((shown(&trace)?, trace.ended))
+    let shown = shown(&trace).ok_or("more than one event, or a release")?;
+    Ok((shown, trace.ended))
 }
 
 #[test]

@@ -1,7 +1,11 @@
 //! The process: words, files and streams of the system.
-use crate::top::joana;
+ghost use Rattle.std.specs.Process.{exit_status};
+ghost use Rattle.std.specs.Prelude.{◌≡◌};
+ghost use Rattle.joana_base.specs.Status.{code_of};
+ghost use Rattle.joana_cli.specs.Codes.{IsStatusCode};
+
 use jo_io::{StdFiles, StdSink};
-use joana_base::Status;
+use joana_top::{Status, joana};
 use std::process::ExitCode;
 use std::{env, io};
 
@@ -19,11 +23,19 @@ fn words(rt: &HostRuntime) -> io::Result<Vec<String>> {
     Ok(words)
 }
 
+fn exit(status: &Status) -> ExitCode
+    ensures { exit_status result ≡ code_of status.now }
+{
+    ExitCode::from(status.code())
+}
+
 /// Runs the command that the words after the program's name are, and gives the code of what the top call answers.
-pub fn run(rt: HostRuntime) -> ExitCode {
+pub fn run(rt: HostRuntime) -> ExitCode
+    ensures { IsStatusCode (exit_status result) }
+{
     let words = match words(&rt) {
         Ok(words) => words,
-        Err(_) => return ExitCode::from(Status::Memory.code()),
+        Err(_) => return exit(&Status::Memory),
     };
     let mut files = StdFiles::new(&rt);
     let mut out = StdSink::new(rt.stdout());
@@ -35,5 +47,5 @@ pub fn run(rt: HostRuntime) -> ExitCode {
         &mut out,
         &mut notes,
     );
-    ExitCode::from(status.code())
+    exit(&status)
 }
