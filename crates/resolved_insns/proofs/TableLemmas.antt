@@ -19,9 +19,9 @@ use Rattle.jo_prog.specs.declared.program.Method.{Method}
 use Rattle.jo_prog.specs.Program.{method_at}
 use Rattle.jo_prog.specs.Sites.{followed, insns_from, insns_in}
 use Rattle.machine.specs.Instructions.{with_next, instruction_at}
-use Rattle.resolved_insns.specs.declared.resolved.Resolved.{Resolved}
+use Rattle.jvm_values.specs.declared.resolved.Resolved.{Resolved}
 use Rattle.resolved_insns.specs.declared.table.Instructions.{Instructions}
-use Rattle.resolved_insns.specs.Resolved.{IsSeenAt}
+use Rattle.jvm_values.specs.Resolved.{IsSeenAt}
 use Rattle.resolved_insns.specs.Tables.{slot, AreEmpty, IsSlot, IsSound, IsWhole, IsRowIn, IsRowOf, starts_at, found_at, AreInstructionsOf}
 
 -- ---- the instructions of code are in their places

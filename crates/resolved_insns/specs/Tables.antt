@@ -10,9 +10,9 @@ use Rattle.jo_prog.specs.declared.program.Code.{Code}
 use Rattle.jo_prog.specs.Program.{code_at}
 use Rattle.jo_prog.specs.Sites.{insns_in}
 use Rattle.machine.specs.Instructions.{with_next, instruction_in, instruction_at}
-use Rattle.resolved_insns.specs.declared.resolved.Resolved.{Resolved}
+use Rattle.jvm_values.specs.declared.resolved.Resolved.{Resolved}
 use Rattle.resolved_insns.specs.declared.table.Instructions.{Instructions}
-use Rattle.resolved_insns.specs.Resolved.{IsSeenAt}
+use Rattle.jvm_values.specs.Resolved.{IsSeenAt}
 
 abbrev pub slot : List (Option Resolved) → ℕ → Option Resolved
 slot row pc = option_flatten (slice_get row pc)

@@ -3,12 +3,10 @@
 
 mod operands;
 mod plain;
-mod resolved;
 mod resolving;
 mod strings;
 mod switches;
 mod table;
 
-pub use resolved::{Case, Instruction, Resolved};
 pub use strings::Strings;
 pub use table::Instructions;

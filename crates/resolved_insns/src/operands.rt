@@ -9,11 +9,10 @@ ghost use Rattle.jo_prog.specs.Program.{class_at as class_with, operand_at as op
 ghost use Rattle.machine.specs.Instructions as machine;
 ghost use Rattle.machine.specs.Instructions.{pushes_text};
 ghost use Rattle.hierarchy.specs.Hierarchies.{IsHierarchyOf};
-ghost use Rattle.resolved_insns.specs.Resolved.{IsSeen};
+ghost use Rattle.jvm_values.specs.Resolved.{IsSeen};
 ghost use Rattle.resolved_insns.specs.Strings.{AreStringsOf};
 
 use crate::plain::within;
-use crate::resolved::Instruction;
 use crate::strings::Strings;
 use hierarchy::Hierarchy;
 use jo_ids::{ClassId, FieldId, Id, Memory, MethodId};
@@ -21,6 +20,7 @@ use jo_prog::laws::strings_have_objects;
 use jo_prog::program::{MemberRef, Operand, Program, TypeRef, class_at, method_at};
 use jo_text::{Base, FieldDesc, MethodDesc, Name};
 use jo_types::{copy_desc, copy_name, copy_type, field_type, method_type};
+use jvm_values::Instruction;
 use std::alloc::{AllocError, Global};
 
 /// What an instruction of a method names by this pool index.

@@ -4,14 +4,14 @@ ghost use Rattle.jo_prog.specs.declared.program.Program.{Program as OfProgram};
 ghost use Rattle.jo_prog.specs.Operations;
 ghost use Rattle.jo_prog.specs.Program.{method_at as method_with};
 ghost use Rattle.machine.specs.Instructions as machine;
-ghost use Rattle.resolved_insns.specs.Resolved.{IsSeen};
+ghost use Rattle.jvm_values.specs.Resolved.{IsSeen};
 ghost use Rattle.resolved_insns.specs.Plain.{later, plain_without};
 
-use crate::resolved::Instruction;
 use jo_ids::{Memory, MethodId};
 use jo_prog::program::{Method, Program, method_at};
 use jo_text::{FieldDesc, MethodDesc};
 use jo_types::method_type;
+use jvm_values::Instruction;
 use std::alloc::Global;
 
 /// Whether an opcode is one of these in a row.

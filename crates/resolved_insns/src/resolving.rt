@@ -5,12 +5,11 @@ ghost use Rattle.jo_insn.specs.declared.instructions.Insn.TheVariants.{TableSwit
 ghost use Rattle.jo_insn.specs.Jumps.{IsPlacedIn};
 ghost use Rattle.machine.specs.Instructions as machine;
 ghost use Rattle.hierarchy.specs.Hierarchies.{IsHierarchyOf};
-ghost use Rattle.resolved_insns.specs.Resolved.{IsSeen, IsSeenAt};
+ghost use Rattle.jvm_values.specs.Resolved.{IsSeen, IsSeenAt};
 ghost use Rattle.resolved_insns.specs.Strings.{AreStringsOf};
 
 use crate::operands::pooled;
 use crate::plain::{jump, local, pc_behind, plain};
-use crate::resolved::{Instruction, Resolved};
 use crate::strings::Strings;
 use crate::switches::{cases_in_row, cases_of_pairs};
 use hierarchy::Hierarchy;
@@ -18,6 +17,7 @@ use jo_ids::{Memory, MethodId};
 use jo_insn::{Insn, Placed, behind};
 use jo_prog::program::Program;
 use jo_text::{Base, FieldDesc};
+use jvm_values::{Instruction, Resolved};
 use std::alloc::Global;
 
 /// The element type of a newarray.

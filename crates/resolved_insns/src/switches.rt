@@ -5,14 +5,14 @@ ghost use Rattle.jo_insn.specs.Instructions.{keys_of};
 ghost use Rattle.jo_insn.specs.Jumps.{AreOffsets, offsets_of};
 ghost use Rattle.machine.specs.Instructions.{cases_of, keys_from};
 ghost use Rattle.machine.specs.Instructions as machine;
-ghost use Rattle.resolved_insns.specs.Resolved.{case_of};
+ghost use Rattle.jvm_values.specs.Resolved.{case_of};
 
 use crate::plain::pc_behind;
-use crate::resolved::Case;
 use byteorder::{BigEndian, ByteOrder};
 use jo_ids::{List, Memory};
 use jo_insn::behind;
 use jo_prog::lists::add;
+use jvm_values::Case;
 use std::alloc::Global;
 
 /// The offset that begins a table.

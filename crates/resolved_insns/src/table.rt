@@ -8,7 +8,6 @@ ghost use Rattle.hierarchy.specs.Hierarchies.{IsHierarchyOf};
 ghost use Rattle.resolved_insns.specs.Strings.{AreStringsOf};
 ghost use Rattle.resolved_insns.specs.Tables.{AreEmpty, IsWhole, IsRowIn, IsRowOf, found_in, AreInstructionsOf};
 
-use crate::resolved::Resolved;
 use crate::resolving::resolve;
 use crate::strings::Strings;
 use hierarchy::Hierarchy;
@@ -16,6 +15,7 @@ use jo_ids::{Id, Memory, MethodId};
 use jo_insn::Placed;
 use jo_prog::program::{Code, Program, code_at};
 use jo_prog::sites::instructions;
+use jvm_values::Resolved;
 use std::alloc::Global;
 
 /// How many bytes code has at most.

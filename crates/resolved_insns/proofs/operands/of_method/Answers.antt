@@ -1,7 +1,7 @@
 use Rattle.std.proofs.Common.{rules, ◌≡◌, sym, subst, Option, Some}
 use Rattle.jo_prog.specs.MethodTypes.{method_desc_in}
 use Rattle.machine.specs.Instructions.{Instruction, method_named}
-use Rattle.resolved_insns.specs.Resolved.{IsSeen}
+use Rattle.jvm_values.specs.Resolved.{IsSeen}
 use Rattle.resolved_insns.proofs.OperandLemmas.{method_is}
 use Rattle.resolved_insns.proofs.operands.of_method.Goals as goal
 

@@ -1,7 +1,7 @@
 use Rattle.std.proofs.Common.{rules, sym, subst, Option}
 use Rattle.jo_prog.specs.Program.{method_at}
 use Rattle.machine.specs.Instructions.{Instruction, method_desc}
-use Rattle.resolved_insns.specs.Resolved.{IsSeen}
+use Rattle.jvm_values.specs.Resolved.{IsSeen}
 use Rattle.resolved_insns.proofs.PlainLemmas.{returns_none}
 use Rattle.resolved_insns.proofs.plain.plain.Goals as goal
 

@@ -1,6 +1,6 @@
 use Rattle.std.proofs.Common.{rules, sym, subst, Option}
 use Rattle.machine.specs.Instructions.{Instruction}
-use Rattle.resolved_insns.specs.Resolved.{IsSeen}
+use Rattle.jvm_values.specs.Resolved.{IsSeen}
 use Rattle.resolved_insns.proofs.PlainLemmas.{behind_stores}
 use Rattle.resolved_insns.proofs.plain.plain_form.Goals as goal
 

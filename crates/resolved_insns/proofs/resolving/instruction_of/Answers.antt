@@ -5,7 +5,7 @@ use Rattle.jo_insn.specs.declared.instructions.Insn.TheVariants.{TableSwitch, Lo
 use Rattle.jo_insn.proofs.SpelledFromDecoded.{decoded_is_spelled}
 use Rattle.jo_insn.proofs.SwitchTables.{all_bytes}
 use Rattle.machine.specs.Instructions.{instruction_of, pc_behind}
-use Rattle.resolved_insns.specs.Resolved.{IsSeen}
+use Rattle.jvm_values.specs.Resolved.{IsSeen}
 use Rattle.resolved_insns.proofs.resolving.instruction_of.Goals as goal
 
 pub returns-in-Local : goal.returns-in-Local

@@ -4,7 +4,7 @@ use Rattle.std.proofs.lemmas.Int.{to_z-of_z, ints}
 use Rattle.jo_insn.specs.Jumps.{offsets_of}
 use Rattle.jo_insn.proofs.OffsetSteps.{is_there}
 use Rattle.machine.specs.Instructions.{cases_of, keys_from, pc_behind}
-use Rattle.resolved_insns.specs.Resolved.{case_of}
+use Rattle.jvm_values.specs.Resolved.{case_of}
 use Rattle.resolved_insns.proofs.SwitchLemmas.{first_of, one_key}
 use Rattle.resolved_insns.proofs.switches.cases_in_row.Goals as goal
 

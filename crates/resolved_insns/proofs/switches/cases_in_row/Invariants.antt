@@ -2,7 +2,7 @@ use Rattle.std.proofs.Common.{◌≡◌, ◌++◌, ◌-◌, map}
 use Rattle.std.specs.Prelude.{pos, ◌+ℤ◌}
 use Rattle.jo_insn.specs.Jumps.{AreOffsets, offsets_of}
 use Rattle.machine.specs.Instructions.{cases_of, keys_from}
-use Rattle.resolved_insns.specs.Resolved.{case_of}
+use Rattle.jvm_values.specs.Resolved.{case_of}
 use Rattle.resolved_insns.proofs.switches.cases_in_row.Given as goal
 
 abbrev pub invariant-loop-place : goal.invariant-loop-place

@@ -1,7 +1,7 @@
 use Rattle.std.proofs.Common.{rules, ◌≡◌, ◌++◌, ◌∷◌, [], map}
 use Rattle.jo_insn.proofs.OffsetSteps.{is_there}
 use Rattle.machine.specs.Instructions.{pc_behind}
-use Rattle.resolved_insns.specs.Resolved.{case_of}
+use Rattle.jvm_values.specs.Resolved.{case_of}
 use Rattle.resolved_insns.proofs.SwitchLemmas.{first_of, one_pair}
 use Rattle.resolved_insns.proofs.switches.cases_of_pairs.Goals as goal
 

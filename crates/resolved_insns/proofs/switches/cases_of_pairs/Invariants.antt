@@ -2,7 +2,7 @@ use Rattle.std.proofs.Common.{◌≡◌, ◌++◌, ◌-◌, map}
 use Rattle.jo_insn.specs.Instructions.{keys_of}
 use Rattle.jo_insn.specs.Jumps.{AreOffsets, offsets_of}
 use Rattle.machine.specs.Instructions.{cases_of}
-use Rattle.resolved_insns.specs.Resolved.{case_of}
+use Rattle.jvm_values.specs.Resolved.{case_of}
 use Rattle.resolved_insns.proofs.switches.cases_of_pairs.Given as goal
 
 abbrev pub invariant-loop : goal.invariant-loop
