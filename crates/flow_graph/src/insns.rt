@@ -162,12 +162,15 @@ fn field_by(program: &Program, hierarchy: &Hierarchy, operand: Option<&Operand>)
     let Some(Operand::Member(member)) = operand else {
         return None;
     };
-    hierarchy.resolve_field(
-        program,
-        receiver_class(&member.owner),
-        member.name.as_slice(),
-        member.desc.as_slice(),
-    )
+    match &member.owner {
+        TypeRef::Class(class) => hierarchy.resolve_field(
+            program,
+            *class,
+            member.name.as_slice(),
+            member.desc.as_slice(),
+        ),
+        TypeRef::Array(_) => None,
+    }
 }
 
 /// The method that an instruction resolves to.

@@ -2,6 +2,7 @@
 ghost use Rattle.std.specs.Prelude.{◌≡◌, ◌<◌, ◌≤◌, ◌+◌, ◌^◌, ◌↔◌, Some, length, Contains, IfOk, OnOk};
 ghost use Rattle.std.specs.Option.{option_copied};
 ghost use Rattle.hierarchy.specs.Hierarchies.{IsHierarchyOf};
+ghost use Rattle.typing_effects.specs.ClassNames.{AreNamesOf};
 ghost use Rattle.typing_heights.specs.Adds.{From, FromBelow};
 ghost use Rattle.typing_heights.specs.Searches.{AreHeights};
 ghost use Rattle.typing_heights.specs.Subjects.{program_of, typable_of, IsSubject};
@@ -19,6 +20,7 @@ use hierarchy::Hierarchy;
 use jo_ids::Memory;
 use jo_prog::program::{Program, Row};
 use std::alloc::{AllocError, Global};
+use typing_effects::class_names::ClassNames;
 use typing_effects::kinds::changed;
 use typing_heights::moves::Move;
 use typing_heights::subjects::Subject;
@@ -164,13 +166,14 @@ fn fix_all(
 fn carry(
     alloc: Global,
     program: &Program,
+    names: &ClassNames,
     facts: &mut FactTable,
     fact: &Fact,
     to: u32,
     place: usize,
     source: Source,
 ) -> Result<(), Memory>
-    requires { length program.now.classes < 2 ^ 32 }
+    requires { AreNamesOf program.now.classes names.now }
     ensures { OnOk result (Grows (Carries program.now (item_in fact.now) to place (source_in source)) (items_of facts.old) (items_of facts.new)) }
 {
     let Source::FromPlace(before, change) = source else {
@@ -179,7 +182,7 @@ fn carry(
     if before != fact.place {
         return Ok(());
     }
-    let kind = changed(alloc, program, change, &fact.kind)?;
+    let kind = changed(alloc, program, names, change, &fact.kind)?;
     add_fact(facts, to, place, kind)?;
     Ok(())
 }
@@ -188,6 +191,7 @@ fn carry(
 fn carry_to(
     alloc: Global,
     subject: &Subject<'_>,
+    names: &ClassNames,
     heights: &[Option<u16>],
     stop: &Stop,
     facts: &mut FactTable,
@@ -195,7 +199,7 @@ fn carry_to(
     step: Move,
     place: usize,
 ) -> Result<(), Memory>
-    requires short { length (program_of subject.now).classes < 2 ^ 32 }
+    requires names { AreNamesOf (program_of subject.now).classes names.now }
     requires stop { IsStop (program_of subject.now) (typable_of subject.now) heights.now step.from stop.now }
     ensures { OnOk result (Grows (CarriesTo (program_of subject.now) (typable_of subject.now) (item_in fact.now) step stop.now.height place) (items_of facts.old) (items_of facts.new)) }
 {
@@ -203,7 +207,16 @@ fn carry_to(
         return Ok(());
     }
     let source = source_behind(alloc, subject, heights, stop, step, place)?;
-    carry(alloc, subject.program, facts, fact, step.to, place, source)?;
+    carry(
+        alloc,
+        subject.program,
+        names,
+        facts,
+        fact,
+        step.to,
+        place,
+        source,
+    )?;
     Ok(())
 }
 
@@ -211,19 +224,22 @@ fn carry_to(
 fn carry_behind(
     alloc: Global,
     subject: &Subject<'_>,
+    names: &ClassNames,
     heights: &[Option<u16>],
     stop: &Stop,
     facts: &mut FactTable,
     fact: &Fact,
     step: Move,
 ) -> Result<(), Memory>
-    requires short { length (program_of subject.now).classes < 2 ^ 32 }
+    requires names { AreNamesOf (program_of subject.now).classes names.now }
     requires stop { IsStop (program_of subject.now) (typable_of subject.now) heights.now step.from stop.now }
     ensures { OnOk result (Grows (CarriesBehind (program_of subject.now) (typable_of subject.now) (item_in fact.now) step stop.now.height) (items_of facts.old) (items_of facts.new)) }
 {
     let places = fed(alloc, &stop.effect, sizes_at(subject, stop), fact.place)?;
     for place in places.as_slice() {
-        carry_to(alloc, subject, heights, stop, facts, fact, step, *place)?;
+        carry_to(
+            alloc, subject, names, heights, stop, facts, fact, step, *place,
+        )?;
     }
     Ok(())
 }
@@ -232,17 +248,18 @@ fn carry_behind(
 fn carry_from(
     alloc: Global,
     subject: &Subject<'_>,
+    names: &ClassNames,
     heights: &[Option<u16>],
     stop: &Stop,
     facts: &mut FactTable,
     fact: &Fact,
 ) -> Result<(), Memory>
-    requires short { length (program_of subject.now).classes < 2 ^ 32 }
+    requires names { AreNamesOf (program_of subject.now).classes names.now }
     requires stop { IsStop (program_of subject.now) (typable_of subject.now) heights.now fact.now.pc stop.now }
     ensures { OnOk result (Grows (CarriesFrom (program_of subject.now) (typable_of subject.now) heights.now (item_in fact.now)) (items_of facts.old) (items_of facts.new)) }
 {
     for step in stop.moves.as_slice() {
-        carry_behind(alloc, subject, heights, stop, facts, fact, *step)?;
+        carry_behind(alloc, subject, names, heights, stop, facts, fact, *step)?;
     }
     Ok(())
 }
@@ -250,18 +267,19 @@ fn carry_from(
 fn carry_on(
     alloc: Global,
     subject: &Subject<'_>,
+    names: &ClassNames,
     heights: &[Option<u16>],
     stops: &[Option<Stop>],
     facts: &mut FactTable,
     fact: &Fact,
 ) -> Result<(), Memory>
-    requires short { length (program_of subject.now).classes < 2 ^ 32 }
+    requires names { AreNamesOf (program_of subject.now).classes names.now }
     requires stops { AreStops (program_of subject.now) (typable_of subject.now) heights.now stops.now }
     ensures { OnOk result (Grows (CarriesFrom (program_of subject.now) (typable_of subject.now) heights.now (item_in fact.now)) (items_of facts.old) (items_of facts.new)) }
 {
     match stop_of(stops, fact.pc) {
         Some(stop) => {
-            carry_from(alloc, subject, heights, stop, facts, fact)?;
+            carry_from(alloc, subject, names, heights, stop, facts, fact)?;
             Ok(())
         }
         None => Ok(()),
@@ -278,10 +296,11 @@ fn places_of(pcs: usize, max_locals: u16, max_stack: u16) -> usize {
 fn first_facts(
     alloc: Global,
     subject: &Subject<'_>,
+    names: &ClassNames,
     heights: &[Option<u16>],
     stops: &[Option<Stop>],
 ) -> Result<FactTable, Memory>
-    requires short { length (program_of subject.now).classes < 2 ^ 32 }
+    requires names { AreNamesOf (program_of subject.now).classes names.now }
     requires heights { AreHeights (program_of subject.now) (typable_of subject.now) heights.now }
     requires stops { AreStops (program_of subject.now) (typable_of subject.now) heights.now stops.now }
     ensures { IfOk result (λ facts. Found (program_of subject.now) (typable_of subject.now) heights.now 0 (items_of facts)) }
@@ -291,7 +310,7 @@ fn first_facts(
         subject.code.max_locals,
         subject.code.max_stack,
     );
-    let mut facts = start_facts(alloc, subject, room)?;
+    let mut facts = start_facts(alloc, subject, names, room)?;
     fix_all(alloc, subject, heights, stops, &mut facts)?;
     Ok(facts)
 }
@@ -300,21 +319,30 @@ fn first_facts(
 fn kinds_of(
     alloc: Global,
     hierarchy: &Hierarchy,
+    names: &ClassNames,
     subject: &Subject<'_>,
     heights: &[Option<u16>],
 ) -> Result<FactTable, Memory>
     requires subject { IsSubject subject.now }
     requires kept { IsHierarchyOf (program_of subject.now) hierarchy.now }
-    requires short { length (program_of subject.now).classes < 2 ^ 32 }
+    requires names { AreNamesOf (program_of subject.now).classes names.now }
     requires heights { AreHeights (program_of subject.now) (typable_of subject.now) heights.now }
     ensures { IfOk result (λ facts. AreKinds (program_of subject.now) (typable_of subject.now) heights.now (items_of facts)) }
 {
-    let stops = stops_of(alloc, hierarchy, subject, heights)?;
-    let mut facts = first_facts(alloc, subject, heights, stops.as_slice())?;
+    let stops = stops_of(alloc, hierarchy, names, subject, heights)?;
+    let mut facts = first_facts(alloc, subject, names, heights, stops.as_slice())?;
     // memory has no room for as many facts
     for number in 0..u32::MAX {
         match copy_fact(alloc, facts.as_slice(), number as usize)? {
-            Some(fact) => carry_on(alloc, subject, heights, stops.as_slice(), &mut facts, &fact)?,
+            Some(fact) => carry_on(
+                alloc,
+                subject,
+                names,
+                heights,
+                stops.as_slice(),
+                &mut facts,
+                &fact,
+            )?,
             None => return Ok(facts),
         }
     }
@@ -334,16 +362,17 @@ fn in_order(table: FactTable) -> Result<Vec<Fact>, Memory>
 pub(crate) fn kinds_in_order(
     alloc: Global,
     hierarchy: &Hierarchy,
+    names: &ClassNames,
     subject: &Subject<'_>,
     heights: &[Option<u16>],
 ) -> Result<Vec<Fact>, Memory>
     requires subject { IsSubject subject.now }
     requires kept { IsHierarchyOf (program_of subject.now) hierarchy.now }
-    requires short { length (program_of subject.now).classes < 2 ^ 32 }
+    requires names { AreNamesOf (program_of subject.now).classes names.now }
     requires heights { AreHeights (program_of subject.now) (typable_of subject.now) heights.now }
     ensures { IfOk result (λ facts. AreKinds (program_of subject.now) (typable_of subject.now) heights.now (items_of facts.items)) }
 {
-    let table = kinds_of(alloc, hierarchy, subject, heights)?;
+    let table = kinds_of(alloc, hierarchy, names, subject, heights)?;
     let facts = in_order(table)?;
     Ok(facts)
 }

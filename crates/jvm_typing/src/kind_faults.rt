@@ -6,6 +6,7 @@ ghost use Rattle.hierarchy.specs.Hierarchies.{IsHierarchyOf};
 ghost use Rattle.jo_prog.specs.declared.typed.TypeFault.{TypeFault};
 ghost use Rattle.jo_prog.specs.TypingPaths;
 ghost use Rattle.typing_heights.specs.Adds.{Adds, From, FromBelow};
+ghost use Rattle.typing_effects.specs.ClassNames.{AreNamesOf};
 ghost use Rattle.typing_effects.specs.Effects.{need_in, reads_in, effect_in};
 ghost use Rattle.jvm_typing.specs.KindFaults.{read_fails, pop_fails, place_fails, kind_fault, is_wrong, FailsBy, WrongAt, IsKindFault, IsAskedAt};
 ghost use Rattle.typing_effects.specs.Kinds.{kind_in};
@@ -18,6 +19,7 @@ use jo_prog::program::{Program, Row, TypeRef};
 use jo_prog::typed::{TypeCode, TypeFault};
 use std::alloc::{AllocError, Global};
 use typing_effects::asks::passes;
+use typing_effects::class_names::ClassNames;
 use typing_effects::effects::{Access, Effect, Need, effect_at};
 use typing_effects::forms::Ask;
 use typing_effects::kinds::Kind;
@@ -119,15 +121,16 @@ struct Asked {
 fn asked_at(
     alloc: Global,
     hierarchy: &Hierarchy,
+    names: &ClassNames,
     subject: &Subject<'_>,
     pc: u32,
 ) -> Result<Asked, Memory>
     requires subject { IsSubject subject.now }
     requires kept { IsHierarchyOf (program_of subject.now) hierarchy.now }
-    requires short { length (program_of subject.now).classes < 2 ^ 32 }
+    requires names { AreNamesOf (program_of subject.now).classes names.now }
     ensures { IfOk result (λ asked. IsAskedAt (program_of subject.now) (typable_of subject.now) pc asked) }
 {
-    let effect = effect_at(alloc, hierarchy, subject, pc)?;
+    let effect = effect_at(alloc, hierarchy, names, subject, pc)?;
     Ok(Asked { pc, effect })
 }
 
@@ -135,20 +138,21 @@ fn asked_at(
 fn turn_to(
     alloc: Global,
     hierarchy: &Hierarchy,
+    names: &ClassNames,
     subject: &Subject<'_>,
     asked: Asked,
     pc: u32,
 ) -> Result<Asked, Memory>
     requires subject { IsSubject subject.now }
     requires kept { IsHierarchyOf (program_of subject.now) hierarchy.now }
-    requires short { length (program_of subject.now).classes < 2 ^ 32 }
+    requires names { AreNamesOf (program_of subject.now).classes names.now }
     requires asked { IsAskedAt (program_of subject.now) (typable_of subject.now) asked.pc asked }
     ensures { IfOk result (λ now. IsAskedAt (program_of subject.now) (typable_of subject.now) pc now) }
 {
     if asked.pc == pc {
         return Ok(asked);
     }
-    let now = asked_at(alloc, hierarchy, subject, pc)?;
+    let now = asked_at(alloc, hierarchy, names, subject, pc)?;
     Ok(now)
 }
 
@@ -210,15 +214,17 @@ fn any_catches_wrong(program: &Program, hierarchy: &Hierarchy, pc: u32, rows: &[
 fn is_wrong(
     alloc: Global,
     hierarchy: &Hierarchy,
+    names: &ClassNames,
     subject: &Subject<'_>,
     pc: u32,
 ) -> Result<bool, Memory>
     requires subject { IsSubject subject.now }
     requires kept { IsHierarchyOf (program_of subject.now) hierarchy.now }
     requires short { length (program_of subject.now).classes < 2 ^ 32 }
+    requires names { AreNamesOf (program_of subject.now).classes names.now }
     ensures { IfOk result (λ wrong. wrong ≡ is_wrong (program_of subject.now) (typable_of subject.now) pc) }
 {
-    let effect = effect_at(alloc, hierarchy, subject, pc)?;
+    let effect = effect_at(alloc, hierarchy, names, subject, pc)?;
     let catches = any_catches_wrong(subject.program, hierarchy, pc, subject.code.rows.as_slice());
     Ok(effect.wrong || catches)
 }
@@ -226,6 +232,7 @@ fn is_wrong(
 fn add_wrong(
     alloc: Global,
     hierarchy: &Hierarchy,
+    names: &ClassNames,
     subject: &Subject<'_>,
     heights: &[Option<u16>],
     found: &mut Vec<TypeFault>,
@@ -234,12 +241,13 @@ fn add_wrong(
     requires subject { IsSubject subject.now }
     requires kept { IsHierarchyOf (program_of subject.now) hierarchy.now }
     requires short { length (program_of subject.now).classes < 2 ^ 32 }
+    requires names { AreNamesOf (program_of subject.now).classes names.now }
     ensures { OnOk result (Adds (Contains found.old.items) (Contains found.new.items) (WrongAt (program_of subject.now) (typable_of subject.now) heights.now pc)) }
 {
     let Some(_) = known_height(heights, pc) else {
         return Ok(());
     };
-    let wrong = is_wrong(alloc, hierarchy, subject, pc)?;
+    let wrong = is_wrong(alloc, hierarchy, names, subject, pc)?;
     if wrong {
         add_fault(found, pc)?;
         Ok(())
@@ -252,6 +260,7 @@ fn add_wrong(
 fn add_all_failing(
     alloc: Global,
     hierarchy: &Hierarchy,
+    names: &ClassNames,
     subject: &Subject<'_>,
     found: &mut Vec<TypeFault>,
     facts: &[Fact],
@@ -259,11 +268,12 @@ fn add_all_failing(
     requires subject { IsSubject subject.now }
     requires kept { IsHierarchyOf (program_of subject.now) hierarchy.now }
     requires short { length (program_of subject.now).classes < 2 ^ 32 }
+    requires names { AreNamesOf (program_of subject.now).classes names.now }
     ensures { OnOk result (Adds (Contains found.old.items) (Contains found.new.items) (From facts.now (FailsBy (program_of subject.now) (typable_of subject.now)))) }
 {
-    let mut asked = asked_at(alloc, hierarchy, subject, 0)?;
+    let mut asked = asked_at(alloc, hierarchy, names, subject, 0)?;
     for fact in facts {
-        asked = turn_to(alloc, hierarchy, subject, asked, fact.pc)?;
+        asked = turn_to(alloc, hierarchy, names, subject, asked, fact.pc)?;
         add_failing(hierarchy, subject, found, &asked, fact)?;
     }
     Ok(())
@@ -272,6 +282,7 @@ fn add_all_failing(
 fn add_all_wrong(
     alloc: Global,
     hierarchy: &Hierarchy,
+    names: &ClassNames,
     subject: &Subject<'_>,
     heights: &[Option<u16>],
     found: &mut Vec<TypeFault>,
@@ -279,13 +290,14 @@ fn add_all_wrong(
     requires subject { IsSubject subject.now }
     requires kept { IsHierarchyOf (program_of subject.now) hierarchy.now }
     requires short { length (program_of subject.now).classes < 2 ^ 32 }
+    requires names { AreNamesOf (program_of subject.now).classes names.now }
     ensures { OnOk result (Adds (Contains found.old.items) (Contains found.new.items) (FromBelow (length heights.now) (WrongAt (program_of subject.now) (typable_of subject.now) heights.now))) }
 {
     for place in 0..heights.len() {
         let Ok(pc) = u32::try_from(place) else {
             return Err(AllocError);
         };
-        add_wrong(alloc, hierarchy, subject, heights, found, pc)?;
+        add_wrong(alloc, hierarchy, names, subject, heights, found, pc)?;
     }
     Ok(())
 }
@@ -294,6 +306,7 @@ fn add_all_wrong(
 pub(crate) fn add_kind_faults(
     alloc: Global,
     hierarchy: &Hierarchy,
+    names: &ClassNames,
     subject: &Subject<'_>,
     heights: &[Option<u16>],
     facts: &[Fact],
@@ -302,9 +315,10 @@ pub(crate) fn add_kind_faults(
     requires subject { IsSubject subject.now }
     requires kept { IsHierarchyOf (program_of subject.now) hierarchy.now }
     requires short { length (program_of subject.now).classes < 2 ^ 32 }
+    requires names { AreNamesOf (program_of subject.now).classes names.now }
     ensures { OnOk result (Adds (Contains found.old.items) (Contains found.new.items) (IsKindFault (program_of subject.now) (typable_of subject.now) heights.now facts.now)) }
 {
-    add_all_failing(alloc, hierarchy, subject, found, facts)?;
-    add_all_wrong(alloc, hierarchy, subject, heights, found)?;
+    add_all_failing(alloc, hierarchy, names, subject, found, facts)?;
+    add_all_wrong(alloc, hierarchy, names, subject, heights, found)?;
     Ok(())
 }

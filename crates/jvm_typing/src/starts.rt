@@ -6,6 +6,7 @@ ghost use Rattle.jo_prog.specs.MethodTypes.{method_desc_in};
 ghost use Rattle.jo_prog.specs.Shapes;
 ghost use Rattle.jo_prog.specs.Typing;
 ghost use Rattle.typing_heights.specs.Adds.{Adds};
+ghost use Rattle.typing_effects.specs.ClassNames.{AreNamesOf};
 ghost use Rattle.typing_effects.specs.Kinds.{kind_in};
 ghost use Rattle.jvm_typing.specs.KindPasses.{Item, items_of, Starts, StartAt};
 ghost use Rattle.typing_heights.specs.Subjects.{program_of, typable_of, IsSubject};
@@ -17,6 +18,7 @@ use jo_insn::{ACC_STATIC, has_flag};
 use jo_prog::program::{Method, Program, TypeRef};
 use jo_text::{DescFault, FieldDesc, read_method_desc};
 use std::alloc::{AllocError, Global};
+use typing_effects::class_names::ClassNames;
 use typing_effects::kinds::{Kind, copy_kind, kind_of_type};
 use typing_heights::subjects::Subject;
 
@@ -35,13 +37,14 @@ fn add_params(
     alloc: Global,
     kinds: &mut Vec<Kind>,
     program: &Program,
+    names: &ClassNames,
     params: &[FieldDesc],
 ) -> Result<(), Memory>
-    requires { length program.now.classes < 2 ^ 32 }
+    requires { AreNamesOf program.now.classes names.now }
     ensures { OnOk result (map kind_in kinds.new.items ≡ map kind_in kinds.old.items ++ map (Shapes.kind_of_type program.now) params.now) }
 {
     for desc in params {
-        let kind = kind_of_type(alloc, program, desc)?;
+        let kind = kind_of_type(alloc, program, names, desc)?;
         kinds.push(kind)?;
     }
     Ok(())
@@ -51,14 +54,15 @@ fn add_described(
     alloc: Global,
     kinds: &mut Vec<Kind>,
     program: &Program,
+    names: &ClassNames,
     method: &Method,
 ) -> Result<(), Memory>
-    requires { length program.now.classes < 2 ^ 32 }
+    requires { AreNamesOf program.now.classes names.now }
     ensures { OnOk result (map kind_in kinds.new.items ≡ map kind_in kinds.old.items ++ InsnTyping.param_kinds program.now (method_desc_in method.now.desc)) }
 {
     match read_method_desc(alloc, method.desc.as_slice()) {
         Ok(desc) => {
-            add_params(alloc, kinds, program, desc.params.as_slice())?;
+            add_params(alloc, kinds, program, names, desc.params.as_slice())?;
             Ok(())
         }
         Err(DescFault::Bad) => Ok(()),
@@ -79,14 +83,15 @@ fn add_unset(kinds: &mut Vec<Kind>, count: u16) -> Result<(), Memory>
 fn start_kinds(
     alloc: Global,
     program: &Program,
+    names: &ClassNames,
     method: &Method,
     count: u16,
 ) -> Result<Vec<Kind>, Memory>
-    requires { length program.now.classes < 2 ^ 32 }
+    requires { AreNamesOf program.now.classes names.now }
     ensures { IfOk result (λ kinds. map kind_in kinds.items ≡ InsnTyping.locals_at_start program.now method.now count) }
 {
     let mut kinds = receiver_kinds(alloc, method)?;
-    add_described(alloc, &mut kinds, program, method)?;
+    add_described(alloc, &mut kinds, program, names, method)?;
     add_unset(&mut kinds, count)?;
     kinds.truncate(usize::from(count));
     Ok(kinds)
@@ -118,14 +123,16 @@ fn add_start(
 pub(crate) fn start_facts(
     alloc: Global,
     subject: &Subject<'_>,
+    names: &ClassNames,
     room: usize,
 ) -> Result<FactTable, Memory>
-    requires { length (program_of subject.now).classes < 2 ^ 32 }
+    requires { AreNamesOf (program_of subject.now).classes names.now }
     ensures { IfOk result (λ facts. (x : Item) → Contains (items_of facts) x ↔ Starts (program_of subject.now) (typable_of subject.now) x) }
 {
     let kinds = start_kinds(
         alloc,
         subject.program,
+        names,
         subject.method,
         subject.code.max_locals,
     )?;

@@ -2,6 +2,7 @@
 ghost use Rattle.std.specs.Prelude.{◌≡◌, ◌<◌, ◌^◌, ◌↔◌, None, length, Contains, IfOk, OnOk, slice_index_or};
 ghost use Rattle.std.specs.Option.{option_copied};
 ghost use Rattle.hierarchy.specs.Hierarchies.{IsHierarchyOf};
+ghost use Rattle.typing_effects.specs.ClassNames.{AreNamesOf};
 ghost use Rattle.typing_heights.specs.Adds.{Adds, From};
 ghost use Rattle.typing_heights.specs.Searches.{height_at, AreHeights};
 ghost use Rattle.typing_heights.specs.Subjects.{program_of, typable_of, IsSubject};
@@ -11,6 +12,7 @@ ghost use Rattle.jvm_typing.specs.Stops.{LeadsOn, IsStopAt, AreStops};
 use hierarchy::Hierarchy;
 use jo_ids::Memory;
 use std::alloc::{AllocError, Global};
+use typing_effects::class_names::ClassNames;
 use typing_effects::effects::{Effect, effect_at};
 use typing_heights::faults::differs;
 use typing_heights::moves::{Move, leave_at};
@@ -51,13 +53,14 @@ fn kept(alloc: Global, heights: &[Option<u16>], moves: &[Move]) -> Result<Vec<Mo
 fn stop_at(
     alloc: Global,
     hierarchy: &Hierarchy,
+    names: &ClassNames,
     subject: &Subject<'_>,
     heights: &[Option<u16>],
     pc: u32,
 ) -> Result<Option<Stop>, Memory>
     requires subject { IsSubject subject.now }
     requires kept { IsHierarchyOf (program_of subject.now) hierarchy.now }
-    requires short { length (program_of subject.now).classes < 2 ^ 32 }
+    requires names { AreNamesOf (program_of subject.now).classes names.now }
     ensures { IfOk result (λ stop. IsStopAt (program_of subject.now) (typable_of subject.now) heights.now pc stop) }
 {
     let Some(height) = known_height(heights, pc) else {
@@ -69,7 +72,7 @@ fn stop_at(
         return Ok(None);
     }
     let moves = kept(alloc, heights, all.as_slice())?;
-    let effect = effect_at(alloc, hierarchy, subject, pc)?;
+    let effect = effect_at(alloc, hierarchy, names, subject, pc)?;
     Ok(Some(Stop {
         height,
         effect,
@@ -81,12 +84,13 @@ fn stop_at(
 pub(crate) fn stops_of(
     alloc: Global,
     hierarchy: &Hierarchy,
+    names: &ClassNames,
     subject: &Subject<'_>,
     heights: &[Option<u16>],
 ) -> Result<Vec<Option<Stop>>, Memory>
     requires subject { IsSubject subject.now }
     requires kept { IsHierarchyOf (program_of subject.now) hierarchy.now }
-    requires short { length (program_of subject.now).classes < 2 ^ 32 }
+    requires names { AreNamesOf (program_of subject.now).classes names.now }
     ensures { IfOk result (λ stops. AreStops (program_of subject.now) (typable_of subject.now) heights.now stops.items) }
 {
     let mut stops = Vec::new(alloc);
@@ -94,7 +98,7 @@ pub(crate) fn stops_of(
         let Ok(pc) = u32::try_from(place) else {
             return Err(AllocError);
         };
-        let stop = stop_at(alloc, hierarchy, subject, heights, pc)?;
+        let stop = stop_at(alloc, hierarchy, names, subject, heights, pc)?;
         stops.push(stop)?;
     }
     Ok(stops)

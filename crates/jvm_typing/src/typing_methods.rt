@@ -3,6 +3,7 @@ ghost use Rattle.std.specs.Prelude.{◌≡◌, ◌↔◌, ◌<◌, ◌^◌, ℕ,
 ghost use Rattle.hierarchy.specs.Hierarchies.{IsHierarchyOf};
 ghost use Rattle.jo_prog.specs.TypingPaths.{IsTypedMethod, IsTypeFaultOf, HasHeightAt};
 ghost use Rattle.jvm_typing.specs.KindFaults.{IsFirstAnswer, IsTypeAnswer};
+ghost use Rattle.typing_effects.specs.ClassNames.{AreNamesOf};
 ghost use Rattle.typing_heights.specs.Searches.{height_at, AreHeights};
 ghost use Rattle.typing_heights.specs.Subjects.{program_of, typable_of, IsSubject};
 
@@ -13,6 +14,7 @@ use jo_ids::{Memory, MethodId};
 use jo_prog::program::{Program, method_at};
 use jo_prog::typed::{TypeFault, Typed};
 use std::alloc::Global;
+use typing_effects::class_names::{ClassNames, class_names};
 use typing_heights::faults::{first_of, height_faults};
 use typing_heights::moves::moves_of;
 use typing_heights::search::find_heights;
@@ -22,21 +24,24 @@ use typing_heights::subjects::Subject;
 fn first_fault(
     alloc: Global,
     hierarchy: &Hierarchy,
+    names: &ClassNames,
     subject: &Subject<'_>,
     heights: &[Option<u16>],
 ) -> Result<Option<TypeFault>, Memory>
     requires subject { IsSubject subject.now }
     requires kept { IsHierarchyOf (program_of subject.now) hierarchy.now }
     requires short { length (program_of subject.now).classes < 2 ^ 32 }
+    requires names { AreNamesOf (program_of subject.now).classes names.now }
     requires heights { AreHeights (program_of subject.now) (typable_of subject.now) heights.now }
     ensures { IfOk result (λ first. IsFirstAnswer (program_of subject.now) subject.now.number first) }
 {
     let moves = moves_of(alloc, subject, heights)?;
     let mut found = height_faults(alloc, subject, heights, moves.as_slice())?;
-    let facts = kinds_in_order(alloc, hierarchy, subject, heights)?;
+    let facts = kinds_in_order(alloc, hierarchy, names, subject, heights)?;
     add_kind_faults(
         alloc,
         hierarchy,
+        names,
         subject,
         heights,
         facts.as_slice(),
@@ -48,15 +53,17 @@ fn first_fault(
 fn typed_or_fault(
     alloc: Global,
     hierarchy: &Hierarchy,
+    names: &ClassNames,
     subject: &Subject<'_>,
 ) -> Result<Result<Typed, TypeFault>, Memory>
     requires subject { IsSubject subject.now }
     requires kept { IsHierarchyOf (program_of subject.now) hierarchy.now }
     requires short { length (program_of subject.now).classes < 2 ^ 32 }
+    requires names { AreNamesOf (program_of subject.now).classes names.now }
     ensures { IfOk result (λ answer. IsTypeAnswer (program_of subject.now) subject.now.number answer) }
 {
     let heights = find_heights(alloc, subject)?;
-    let first = first_fault(alloc, hierarchy, subject, heights.as_slice())?;
+    let first = first_fault(alloc, hierarchy, names, subject, heights.as_slice())?;
     match first {
         Some(fault) => Ok(Err(fault)),
         None => Ok(Ok(Typed::of(heights))),
@@ -67,10 +74,12 @@ fn type_code(
     alloc: Global,
     program: &Program,
     hierarchy: &Hierarchy,
+    names: &ClassNames,
     method: MethodId,
 ) -> Result<Result<Typed, TypeFault>, Memory>
     requires kept { IsHierarchyOf program.now hierarchy.now }
     requires short { length program.now.classes < 2 ^ 32 }
+    requires names { AreNamesOf program.now.classes names.now }
     ensures { IfOk result (λ answer. IsTypeAnswer program.now method answer) }
 {
     let Some(found) = method_at(program, method) else {
@@ -85,8 +94,29 @@ fn type_code(
         method: found,
         code,
     };
-    let answer = typed_or_fault(alloc, hierarchy, &subject)?;
+    let answer = typed_or_fault(alloc, hierarchy, names, &subject)?;
     Ok(answer)
+}
+
+/// The same as `type_method`, with the names of the program's classes.
+pub(crate) fn type_named(
+    alloc: Global,
+    program: &Program,
+    hierarchy: &Hierarchy,
+    names: &ClassNames,
+    method: MethodId,
+) -> Result<Typed, TypeFault>
+    requires kept { IsHierarchyOf program.now hierarchy.now }
+    requires short { length program.now.classes < 2 ^ 32 }
+    requires names { AreNamesOf program.now.classes names.now }
+    ensures typed { IfOk result (λ typed. IsTypedMethod program.now method) }
+    ensures heights { IfOk result (λ typed. (pc h : ℕ) → (height_at typed pc ≡ Some h) ↔ HasHeightAt program.now method pc h) }
+    ensures fault { IfErr result (λ fault. IsTypeFaultOf program.now method fault) }
+{
+    match type_code(alloc, program, hierarchy, names, method) {
+        Ok(answer) => answer,
+        Err(memory) => Err(TypeFault::from(memory)),
+    }
 }
 
 /// The height at each pc that a typing path of the method reaches, that of the first one, and none elsewhere; a method without code
@@ -103,8 +133,9 @@ pub fn type_method(
     ensures heights { IfOk result (λ typed. (pc h : ℕ) → (height_at typed pc ≡ Some h) ↔ HasHeightAt program.now method pc h) }
     ensures fault { IfErr result (λ fault. IsTypeFaultOf program.now method fault) }
 {
-    match type_code(alloc, program, hierarchy, method) {
-        Ok(answer) => answer,
-        Err(memory) => Err(TypeFault::from(memory)),
-    }
+    let names = match class_names(alloc, program.classes.as_slice()) {
+        Ok(names) => names,
+        Err(memory) => return Err(TypeFault::from(memory)),
+    };
+    type_named(alloc, program, hierarchy, &names, method)
 }

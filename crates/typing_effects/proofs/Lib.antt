@@ -1,2 +1,3 @@
 pub mod EffectLemmas
 pub mod AskLemmas
+pub mod NameTables

@@ -19,6 +19,3 @@ abbrev pub change_in : ChangeHere → Change
 change_in SameHere = Same
 change_in ReferenceHere = Reference
 change_in ElementHere = Element
-
-abbrev pub has_name : List ℕ → Class → Bool
-has_name name class = bytes_eq class.name name

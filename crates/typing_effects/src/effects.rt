@@ -9,10 +9,12 @@ ghost use Rattle.jo_prog.specs.InsnTyping;
 ghost use Rattle.jo_prog.specs.TypingPaths;
 ghost use Rattle.hierarchy.specs.Hierarchies.{IsHierarchyOf};
 ghost use Rattle.typing_effects.specs.Forms.{ask_in, push_in, form_in};
+ghost use Rattle.typing_effects.specs.ClassNames.{AreNamesOf};
 ghost use Rattle.typing_effects.specs.Kinds.{kind_in};
 ghost use Rattle.typing_effects.specs.Effects.{need_in, pushes_in, effect_in};
 ghost use Rattle.typing_heights.specs.Subjects.{program_of, typable_of, IsSubject};
 
+use crate::class_names::ClassNames;
 use crate::forms::{Ask, Form, Push, jump_form, local_form, plain_form};
 use crate::kinds::{Kind, copy_base, copy_name, copy_type, kind_of_type};
 use hierarchy::Hierarchy;
@@ -209,13 +211,18 @@ fn need_of(kind: Kind) -> Need
 }
 
 /// The kind of the method's result.
-fn result_kind(alloc: Global, program: &Program, method: &Method) -> Result<Option<Kind>, Memory>
-    requires { length program.now.classes < 2 ^ 32 }
+fn result_kind(
+    alloc: Global,
+    program: &Program,
+    names: &ClassNames,
+    method: &Method,
+) -> Result<Option<Kind>, Memory>
+    requires { AreNamesOf program.now.classes names.now }
     ensures { IfOk result (λ kind. option_map kind_in kind ≡ InsnTyping.result_kind program.now method.now) }
 {
     match read_method_desc(alloc, method.desc.as_slice()) {
         Ok(desc) => {
-            let kind = described_result(alloc, program, &desc)?;
+            let kind = described_result(alloc, program, names, &desc)?;
             Ok(kind)
         }
         Err(DescFault::Bad) => Ok(Some(Kind::Unset)),
@@ -226,14 +233,15 @@ fn result_kind(alloc: Global, program: &Program, method: &Method) -> Result<Opti
 fn described_result(
     alloc: Global,
     program: &Program,
+    names: &ClassNames,
     desc: &MethodDesc,
 ) -> Result<Option<Kind>, Memory>
-    requires { length program.now.classes < 2 ^ 32 }
+    requires { AreNamesOf program.now.classes names.now }
     ensures { IfOk result (λ kind. option_map kind_in kind ≡ option_map (Shapes.kind_of_type program.now) desc.now.result) }
 {
     match &desc.result {
         Some(desc) => {
-            let kind = kind_of_type(alloc, program, desc)?;
+            let kind = kind_of_type(alloc, program, names, desc)?;
             Ok(Some(kind))
         }
         None => Ok(None),
@@ -298,8 +306,14 @@ fn leaving(alloc: Global, kind: Option<Kind>, op: u8) -> Result<Effect, Memory>
     }
 }
 
-fn plain(alloc: Global, program: &Program, method: &Method, op: u8) -> Result<Effect, Memory>
-    requires { length program.now.classes < 2 ^ 32 }
+fn plain(
+    alloc: Global,
+    program: &Program,
+    names: &ClassNames,
+    method: &Method,
+    op: u8,
+) -> Result<Effect, Memory>
+    requires { AreNamesOf program.now.classes names.now }
     ensures { IfOk result (λ effect. effect_in effect ≡ InsnTyping.plain_effect (InsnTyping.result_kind program.now method.now) op) }
 {
     match plain_form(op) {
@@ -308,7 +322,7 @@ fn plain(alloc: Global, program: &Program, method: &Method, op: u8) -> Result<Ef
             Ok(effect)
         }
         None => {
-            let kind = result_kind(alloc, program, method)?;
+            let kind = result_kind(alloc, program, names, method)?;
             let effect = leaving(alloc, kind, op)?;
             Ok(effect)
         }
@@ -405,13 +419,19 @@ fn of_field(alloc: Global, op: u8, owner: &TypeRef, kind: Kind) -> Result<Effect
     Ok(of_stack(pops, Pushes::Of(Push::Nothing)))
 }
 
-fn field_by(alloc: Global, program: &Program, op: u8, member: &MemberRef) -> Result<Effect, Memory>
-    requires { length program.now.classes < 2 ^ 32 }
+fn field_by(
+    alloc: Global,
+    program: &Program,
+    names: &ClassNames,
+    op: u8,
+    member: &MemberRef,
+) -> Result<Effect, Memory>
+    requires { AreNamesOf program.now.classes names.now }
     ensures { IfOk result (λ effect. effect_in effect ≡ InsnTyping.field_by program.now op member.now.owner (field_desc_in member.now.desc)) }
 {
     match read_field_desc(alloc, member.desc.as_slice()) {
         Ok(desc) => {
-            let kind = kind_of_type(alloc, program, &desc)?;
+            let kind = kind_of_type(alloc, program, names, &desc)?;
             let effect = of_field(alloc, op, &member.owner, kind)?;
             Ok(effect)
         }
@@ -475,14 +495,15 @@ fn receiver_need(
 fn argument_needs(
     alloc: Global,
     program: &Program,
+    names: &ClassNames,
     params: &[FieldDesc],
 ) -> Result<Vec<Need>, Memory>
-    requires { length program.now.classes < 2 ^ 32 }
+    requires { AreNamesOf program.now.classes names.now }
     ensures { IfOk result (λ needs. map need_in needs.items ≡ InsnTyping.argument_needs program.now params.now) }
 {
     let mut needs = Vec::new(alloc);
     for desc in params {
-        let kind = kind_of_type(alloc, program, desc)?;
+        let kind = kind_of_type(alloc, program, names, desc)?;
         needs.push(need_of(kind))?;
     }
     needs.reverse();
@@ -492,6 +513,7 @@ fn argument_needs(
 fn call_needs(
     alloc: Global,
     program: &Program,
+    names: &ClassNames,
     hierarchy: &Hierarchy,
     op: u8,
     current: ClassId,
@@ -499,10 +521,10 @@ fn call_needs(
     params: &[FieldDesc],
 ) -> Result<Vec<Need>, Memory>
     requires kept { IsHierarchyOf program.now hierarchy.now }
-    requires short { length program.now.classes < 2 ^ 32 }
+    requires names { AreNamesOf program.now.classes names.now }
     ensures { IfOk result (λ needs. map need_in needs.items ≡ InsnTyping.argument_needs program.now params.now ++ InsnTyping.receiver_needs program.now op current member.now) }
 {
-    let mut needs = argument_needs(alloc, program, params)?;
+    let mut needs = argument_needs(alloc, program, names, params)?;
     if op == 184 {
         return Ok(needs);
     }
@@ -511,13 +533,18 @@ fn call_needs(
     Ok(needs)
 }
 
-fn result_pushes(alloc: Global, program: &Program, desc: &MethodDesc) -> Result<Pushes, Memory>
-    requires { length program.now.classes < 2 ^ 32 }
+fn result_pushes(
+    alloc: Global,
+    program: &Program,
+    names: &ClassNames,
+    desc: &MethodDesc,
+) -> Result<Pushes, Memory>
+    requires { AreNamesOf program.now.classes names.now }
     ensures { IfOk result (λ pushes. pushes_in pushes ≡ InsnTyping.result_origins program.now desc.now.result) }
 {
     match &desc.result {
         Some(desc) => {
-            let kind = kind_of_type(alloc, program, desc)?;
+            let kind = kind_of_type(alloc, program, names, desc)?;
             Ok(Pushes::One(kind))
         }
         None => Ok(Pushes::Of(Push::Nothing)),
@@ -527,6 +554,7 @@ fn result_pushes(alloc: Global, program: &Program, desc: &MethodDesc) -> Result<
 fn described_call(
     alloc: Global,
     program: &Program,
+    names: &ClassNames,
     hierarchy: &Hierarchy,
     op: u8,
     current: ClassId,
@@ -534,37 +562,41 @@ fn described_call(
     desc: &MethodDesc,
 ) -> Result<Effect, Memory>
     requires kept { IsHierarchyOf program.now hierarchy.now }
-    requires short { length program.now.classes < 2 ^ 32 }
+    requires names { AreNamesOf program.now.classes names.now }
     ensures { IfOk result (λ effect. effect_in effect ≡ InsnTyping.call_effect program.now op current member.now (Some desc.now)) }
 {
     let pops = call_needs(
         alloc,
         program,
+        names,
         hierarchy,
         op,
         current,
         member,
         desc.params.as_slice(),
     )?;
-    let pushes = result_pushes(alloc, program, desc)?;
+    let pushes = result_pushes(alloc, program, names, desc)?;
     Ok(of_stack(pops, pushes))
 }
 
 fn of_call(
     alloc: Global,
     program: &Program,
+    names: &ClassNames,
     hierarchy: &Hierarchy,
     op: u8,
     current: ClassId,
     member: &MemberRef,
 ) -> Result<Effect, Memory>
     requires kept { IsHierarchyOf program.now hierarchy.now }
-    requires short { length program.now.classes < 2 ^ 32 }
+    requires names { AreNamesOf program.now.classes names.now }
     ensures { IfOk result (λ effect. effect_in effect ≡ InsnTyping.call_effect program.now op current member.now (method_desc_in member.now.desc)) }
 {
     match read_method_desc(alloc, member.desc.as_slice()) {
         Ok(desc) => {
-            let effect = described_call(alloc, program, hierarchy, op, current, member, &desc)?;
+            let effect = described_call(
+                alloc, program, names, hierarchy, op, current, member, &desc,
+            )?;
             Ok(effect)
         }
         Err(DescFault::Bad) => Ok(wrong(alloc)),
@@ -575,20 +607,21 @@ fn of_call(
 fn of_member(
     alloc: Global,
     program: &Program,
+    names: &ClassNames,
     hierarchy: &Hierarchy,
     op: u8,
     current: ClassId,
     member: &MemberRef,
 ) -> Result<Effect, Memory>
     requires kept { IsHierarchyOf program.now hierarchy.now }
-    requires short { length program.now.classes < 2 ^ 32 }
+    requires names { AreNamesOf program.now.classes names.now }
     ensures { IfOk result (λ effect. effect_in effect ≡ InsnTyping.member_effect program.now current op member.now) }
 {
     if within(178, 181, op) {
-        let effect = field_by(alloc, program, op, member)?;
+        let effect = field_by(alloc, program, names, op, member)?;
         Ok(effect)
     } else if within(182, 185, op) {
-        let effect = of_call(alloc, program, hierarchy, op, current, member)?;
+        let effect = of_call(alloc, program, names, hierarchy, op, current, member)?;
         Ok(effect)
     } else {
         Ok(wrong(alloc))
@@ -599,13 +632,14 @@ fn of_member(
 fn of_operand(
     alloc: Global,
     program: &Program,
+    names: &ClassNames,
     hierarchy: &Hierarchy,
     op: u8,
     current: ClassId,
     operand: Option<&Operand>,
 ) -> Result<Effect, Memory>
     requires kept { IsHierarchyOf program.now hierarchy.now }
-    requires short { length program.now.classes < 2 ^ 32 }
+    requires names { AreNamesOf program.now.classes names.now }
     ensures { IfOk result (λ effect. effect_in effect ≡ InsnTyping.pooled_effect program.now current op (option_copied operand.entry)) }
 {
     if within(18, 19, op) {
@@ -617,7 +651,7 @@ fn of_operand(
             Ok(effect)
         }
         Some(Operand::Member(member)) => {
-            let effect = of_member(alloc, program, hierarchy, op, current, member)?;
+            let effect = of_member(alloc, program, names, hierarchy, op, current, member)?;
             Ok(effect)
         }
         _ => Ok(wrong(alloc)),
@@ -653,17 +687,18 @@ fn switches(alloc: Global) -> Result<Effect, Memory>
 pub(crate) fn effect_of(
     alloc: Global,
     hierarchy: &Hierarchy,
+    names: &ClassNames,
     subject: &Subject<'_>,
     insn: Insn,
 ) -> Result<Effect, Memory>
     requires subject { IsSubject subject.now }
     requires kept { IsHierarchyOf (program_of subject.now) hierarchy.now }
-    requires short { length (program_of subject.now).classes < 2 ^ 32 }
+    requires names { AreNamesOf (program_of subject.now).classes names.now }
     ensures { IfOk result (λ effect. effect_in effect ≡ InsnTyping.effect_of (program_of subject.now) subject.now.number subject.now.method.now insn) }
 {
     match insn {
         Insn::Plain(op) => {
-            let effect = plain(alloc, subject.program, subject.method, op)?;
+            let effect = plain(alloc, subject.program, names, subject.method, op)?;
             Ok(effect)
         }
         Insn::Local { op, index, .. } => {
@@ -678,7 +713,15 @@ pub(crate) fn effect_of(
         Insn::Pooled { op, index } => {
             let operand = operand_at(subject.program, subject.method, index);
             let current = subject.method.class;
-            let effect = of_operand(alloc, subject.program, hierarchy, op, current, operand)?;
+            let effect = of_operand(
+                alloc,
+                subject.program,
+                names,
+                hierarchy,
+                op,
+                current,
+                operand,
+            )?;
             Ok(effect)
         }
         Insn::Array(kind) => {
@@ -704,17 +747,18 @@ pub(crate) fn effect_of(
 pub fn effect_at(
     alloc: Global,
     hierarchy: &Hierarchy,
+    names: &ClassNames,
     subject: &Subject<'_>,
     pc: u32,
 ) -> Result<Effect, Memory>
     requires subject { IsSubject subject.now }
     requires kept { IsHierarchyOf (program_of subject.now) hierarchy.now }
-    requires short { length (program_of subject.now).classes < 2 ^ 32 }
+    requires names { AreNamesOf (program_of subject.now).classes names.now }
     ensures { IfOk result (λ effect. effect_in effect ≡ TypingPaths.effect_at (program_of subject.now) (typable_of subject.now) pc) }
 {
     match insn_at(subject.code, pc) {
         Some(placed) => {
-            let effect = effect_of(alloc, hierarchy, subject, placed.insn)?;
+            let effect = effect_of(alloc, hierarchy, names, subject, placed.insn)?;
             Ok(effect)
         }
         None => Ok(wrong(alloc)),

@@ -2,11 +2,12 @@
 ghost use Rattle.std.specs.Prelude.{◌≡◌, ◌<◌, ◌^◌, length, None, IfOk, IfSome, IsTrue, ◌↔◌, option_map};
 ghost use Rattle.jo_prog.specs.Shapes;
 ghost use Rattle.jo_prog.specs.Typing;
-ghost use Rattle.jo_prog.specs.Types;
-ghost use Rattle.typing_effects.specs.Kinds.{kind_in, change_in, has_name};
+ghost use Rattle.typing_effects.specs.ClassNames.{AreNamesOf};
+ghost use Rattle.typing_effects.specs.Kinds.{kind_in, change_in};
 
-use jo_ids::{ClassId, Id, Memory};
-use jo_prog::program::{Class, Program, TypeRef};
+use crate::class_names::{ClassNames, class_named};
+use jo_ids::Memory;
+use jo_prog::program::{Program, TypeRef};
 use jo_text::{Base, FieldDesc, Name};
 use std::alloc::Global;
 
@@ -27,35 +28,6 @@ pub enum Change {
     Reference,
     /// That of the array's elements, where they are references.
     Element,
-}
-
-fn is_named(class: &Class, name: &[u8]) -> bool
-    ensures { result ≡ has_name name.now class.now }
-{
-    class.name.as_slice() == name
-}
-
-fn place_named(program: &Program, name: &[u8]) -> Option<usize>
-    ensures value { result ≡ Types.class_named program.now name.now }
-    ensures inside { IfSome result (λ place. place < length program.now.classes) }
-{
-    for (place, class) in program.classes.as_slice().iter().enumerate() {
-        if is_named(class, name) {
-            return Some(place);
-        }
-    }
-    None
-}
-
-/// The first class with that name.
-pub(crate) fn class_named(program: &Program, name: &[u8]) -> Option<ClassId>
-    requires { length program.now.classes < 2 ^ 32 }
-    ensures { result ≡ Types.class_named program.now name.now }
-{
-    match place_named(program, name) {
-        Some(place) => Some(Id::of(place as u32)),
-        None => None,
-    }
 }
 
 pub(crate) fn copy_name(alloc: Global, name: &Name) -> Result<Name, Memory>
@@ -121,8 +93,8 @@ pub fn copy_kind(alloc: Global, kind: &Kind) -> Result<Kind, Memory>
     }
 }
 
-fn base_kind(program: &Program, base: &Base) -> Kind
-    requires { length program.now.classes < 2 ^ 32 }
+fn base_kind(program: &Program, names: &ClassNames, base: &Base) -> Kind
+    requires { AreNamesOf program.now.classes names.now }
     ensures { kind_in result ≡ Shapes.base_kind program.now base.now }
 {
     match base {
@@ -134,7 +106,7 @@ fn base_kind(program: &Program, base: &Base) -> Kind
         Base::Long => Kind::Unset,
         Base::Short => Kind::Int,
         Base::Boolean => Kind::Int,
-        Base::Class(name) => match class_named(program, name.as_slice()) {
+        Base::Class(name) => match class_named(program, names, name.as_slice()) {
             Some(class) => Kind::Ref(TypeRef::Class(class)),
             None => Kind::Unset,
         },
@@ -142,12 +114,17 @@ fn base_kind(program: &Program, base: &Base) -> Kind
 }
 
 /// The kind of a value of that type.
-pub fn kind_of_type(alloc: Global, program: &Program, desc: &FieldDesc) -> Result<Kind, Memory>
-    requires { length program.now.classes < 2 ^ 32 }
+pub fn kind_of_type(
+    alloc: Global,
+    program: &Program,
+    names: &ClassNames,
+    desc: &FieldDesc,
+) -> Result<Kind, Memory>
+    requires { AreNamesOf program.now.classes names.now }
     ensures { IfOk result (λ kind. kind_in kind ≡ Shapes.kind_of_type program.now desc.now) }
 {
     if desc.dims == 0 {
-        return Ok(base_kind(program, &desc.base));
+        return Ok(base_kind(program, names, &desc.base));
     }
     let desc = copy_desc(alloc, desc)?;
     Ok(Kind::Ref(TypeRef::Array(desc)))
@@ -164,8 +141,13 @@ pub(crate) fn has_references(desc: &FieldDesc) -> bool
     1 < desc.dims || class
 }
 
-fn element_of(alloc: Global, program: &Program, desc: &FieldDesc) -> Result<Kind, Memory>
-    requires { length program.now.classes < 2 ^ 32 }
+fn element_of(
+    alloc: Global,
+    program: &Program,
+    names: &ClassNames,
+    desc: &FieldDesc,
+) -> Result<Kind, Memory>
+    requires { AreNamesOf program.now.classes names.now }
     ensures { IfOk result (λ kind. kind_in kind ≡ Shapes.element_kind program.now (Typing.Ref (TypeRef.Array desc.now))) }
 {
     if !has_references(desc) {
@@ -176,12 +158,17 @@ fn element_of(alloc: Global, program: &Program, desc: &FieldDesc) -> Result<Kind
         dims: desc.dims.saturating_sub(1),
         base,
     };
-    let kind = kind_of_type(alloc, program, &element)?;
+    let kind = kind_of_type(alloc, program, names, &element)?;
     Ok(kind)
 }
 
-fn element_kind(alloc: Global, program: &Program, kind: &Kind) -> Result<Kind, Memory>
-    requires { length program.now.classes < 2 ^ 32 }
+fn element_kind(
+    alloc: Global,
+    program: &Program,
+    names: &ClassNames,
+    kind: &Kind,
+) -> Result<Kind, Memory>
+    requires { AreNamesOf program.now.classes names.now }
     ensures { IfOk result (λ element. kind_in element ≡ Shapes.element_kind program.now (kind_in kind.now)) }
 {
     match kind {
@@ -189,7 +176,7 @@ fn element_kind(alloc: Global, program: &Program, kind: &Kind) -> Result<Kind, M
         Kind::Null => Ok(Kind::Null),
         Kind::Ref(TypeRef::Class(_)) => Ok(Kind::Unset),
         Kind::Ref(TypeRef::Array(desc)) => {
-            let element = element_of(alloc, program, desc)?;
+            let element = element_of(alloc, program, names, desc)?;
             Ok(element)
         }
         Kind::Unset => Ok(Kind::Unset),
@@ -214,10 +201,11 @@ fn reference_kind(alloc: Global, kind: &Kind) -> Result<Kind, Memory>
 pub fn changed(
     alloc: Global,
     program: &Program,
+    names: &ClassNames,
     change: Change,
     kind: &Kind,
 ) -> Result<Kind, Memory>
-    requires { length program.now.classes < 2 ^ 32 }
+    requires { AreNamesOf program.now.classes names.now }
     ensures { IfOk result (λ made. kind_in made ≡ Shapes.changed program.now (change_in change) (kind_in kind.now)) }
 {
     match change {
@@ -230,7 +218,7 @@ pub fn changed(
             Ok(kind)
         }
         Change::Element => {
-            let kind = element_kind(alloc, program, kind)?;
+            let kind = element_kind(alloc, program, names, kind)?;
             Ok(kind)
         }
     }

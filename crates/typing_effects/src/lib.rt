@@ -3,6 +3,7 @@
 #![tactic(auto)]
 
 pub mod asks;
+pub mod class_names;
 pub mod effects;
 pub mod forms;
 pub mod kinds;

@@ -1,7 +1,7 @@
 use Rattle.std.proofs.Common.{rules, ◌≡◌}
 use Rattle.jo_prog.specs.declared.typed.TypeCode.TheVariants.{Memory}
 use Rattle.jvm_typing.proofs.FirstAnswerLemmas.{typed_answer, heights_answer, fault_answer, memory_is_no_claim}
-use Rattle.jvm_typing.proofs.typing_methods.type_method.Goals as goal
+use Rattle.jvm_typing.proofs.typing_methods.type_named.Goals as goal
 
 pub returns-in-Ok-clause-typed : goal.returns-in-Ok-clause-typed
 returns-in-Ok-clause-typed c = typed_answer c.args.program.now c.args.method c.in-Ok.answer c.in-Ok.ensures
