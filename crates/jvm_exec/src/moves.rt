@@ -137,3 +137,42 @@ pub(crate) fn shuffle<'i>(op: u8, values: &[Value]) -> Option<Outcome<'i>>
         None => None,
     }
 }
+
+#[cfg(test)]
+mod tests {
+    use super::*;
+
+    /// The ints that a shuffle of some ints pushes, the top of the stack last; none where it pushes none.
+    fn pushed(op: u8, values: &[Value], wanted: &[Value]) -> bool {
+        match shuffled(op, values) {
+            Some(pushed) => pushed.as_slice() == wanted,
+            None => false,
+        }
+    }
+
+    /// As 6.5 of the JVM Specification shows them.
+    #[test]
+    fn shuffles(rt: HostRuntime) {
+        let one = Value::Int(1);
+        let two = Value::Int(2);
+        let three = Value::Int(3);
+        assert!(rt; pushed(90, [two, one].as_slice(), [one, two, one].as_slice()));
+        assert!(rt;
+            pushed(
+                91,
+                [three, two, one].as_slice(),
+                [one, three, two, one].as_slice()
+            )
+        );
+        assert!(rt; pushed(92, [two, one].as_slice(), [two, one, two, one].as_slice()));
+        assert!(rt;
+            pushed(
+                93,
+                [three, two, one].as_slice(),
+                [two, one, three, two, one].as_slice()
+            )
+        );
+        assert!(rt; pushed(95, [two, one].as_slice(), [one, two].as_slice()));
+        assert!(rt; !pushed(95, [one].as_slice(), [one].as_slice()));
+    }
+}

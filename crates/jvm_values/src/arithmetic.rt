@@ -143,3 +143,30 @@ pub fn int_test(op: u8, a: i32, b: i32) -> bool
         _ => a <= b,
     }
 }
+
+#[cfg(test)]
+mod tests {
+    use super::*;
+
+    /// As chapter 6 of the JVM Specification says of each instruction.
+    #[test]
+    fn two_ints(rt: HostRuntime) {
+        assert_eq!(rt; int_op(96, i32::MAX, 1), Some(i32::MIN));
+        assert_eq!(rt; int_op(104, i32::MIN, -1), Some(i32::MIN));
+        assert_eq!(rt; int_op(108, i32::MIN, -1), Some(i32::MIN));
+        assert_eq!(rt; int_op(108, -7, 2), Some(-3));
+        assert_eq!(rt; int_op(112, -7, 2), Some(-1));
+        assert_eq!(rt; int_op(112, 7, 0), None);
+        assert_eq!(rt; int_op(120, 1, 33), Some(2));
+        assert_eq!(rt; int_op(122, -1, 31), Some(-1));
+        assert_eq!(rt; int_op(124, -1, 31), Some(1));
+    }
+
+    #[test]
+    fn one_int(rt: HostRuntime) {
+        assert_eq!(rt; negated(i32::MIN), i32::MIN);
+        assert_eq!(rt; narrow(145, 0x80), -0x80);
+        assert_eq!(rt; narrow(146, -1), 0xffff);
+        assert_eq!(rt; narrow(147, 0x1_8000), -0x8000);
+    }
+}
