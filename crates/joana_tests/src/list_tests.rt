@@ -46,7 +46,7 @@ fn check(alloc: Global, list: &[u8]) -> Result<Answer, Fail> {
     pairs.push(("Loop".to_string(alloc)?, class_of(alloc, LOOP)?))?;
     pairs.push(("Init".to_string(alloc)?, class_of(alloc, INIT)?))?;
     pairs.push(("Needy".to_string(alloc)?, class_of(alloc, NEEDY)?))?;
-    answer_over(alloc, &["check", "l", "p"], pairs, NONE_FAILS)
+    Ok(answer_over(alloc, &["check", "l", "p"], pairs, NONE_FAILS)?)
 }
 
 /// The code of the status and the notes.
