@@ -38,7 +38,7 @@ fn run(alloc: Global, word: &str, bytes: &[u8]) -> Result<Answer, Fail> {
         list: "",
         class: bytes.to_vec(alloc)?,
     };
-    answer_to(alloc, &[word, "c"], stored, NONE_FAILS)
+    Ok(answer_to(alloc, &[word, "c"], stored, NONE_FAILS)?)
 }
 
 #[test]

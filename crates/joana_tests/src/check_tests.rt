@@ -33,7 +33,7 @@ fn check(alloc: Global, policy: &str, list: &str, class: Vec<u8>) -> Result<Answ
         list,
         class,
     };
-    answer_to(alloc, &CHECK, stored, NONE_FAILS)
+    Ok(answer_to(alloc, &CHECK, stored, NONE_FAILS)?)
 }
 
 fn good_policy(alloc: Global) -> Result<String, Fail> {
@@ -330,7 +330,7 @@ fn with_failures(
         list,
         class,
     };
-    answer_to(alloc, words, stored, failing)
+    Ok(answer_to(alloc, words, stored, failing)?)
 }
 
 // The answer of words over three good files.

@@ -21,7 +21,7 @@ fn run(
         list,
         class,
     };
-    answer_to(alloc, words, stored, failing)
+    Ok(answer_to(alloc, words, stored, failing)?)
 }
 
 /// A read with this number, the first put of the output, or the first one of the notes is to fail.

@@ -9,5 +9,4 @@ mod check_tests;
 mod dis_tests;
 #[cfg(test)]
 mod list_tests;
-#[cfg(test)]
-mod runs;
+pub mod runs;

@@ -64,7 +64,7 @@ fn check(alloc: Global, list: &[u8]) -> Result<Answer, Fail> {
     pairs.push(("Init".to_string(alloc)?, class_of(alloc, INIT)?))?;
     pairs.push(("Needy".to_string(alloc)?, class_of(alloc, NEEDY)?))?;
     pairs.push(("Heights".to_string(alloc)?, class_of(alloc, HEIGHTS)?))?;
-    answer_over(alloc, &["check", "l", "p"], pairs, NONE_FAILS)
+    Ok(answer_over(alloc, &["check", "l", "p"], pairs, NONE_FAILS)?)
 }
 
 /// The code of the status and the notes.
