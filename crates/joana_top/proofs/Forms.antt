@@ -26,14 +26,14 @@ plain_of program labels typed well f =
     let is_method = typed labels.entry (slice_get_within program.methods labels.entry well.entry.method well.entry.found) in
     record {
       well_labelled = well;
-      code = f.plain.0;
-      found = f.plain.1;
-      typed = plain_typed program labels f.plain.0 well f.plain.1 (f.no_rows f.plain.0 f.plain.1) f.plain.2 is_method;
-      plain = f.plain.2;
+      code = f.0;
+      found = f.1;
+      typed = plain_typed program labels f.0 well f.1 f.2 is_method;
+      plain = f.2;
     }
 
 pub first_form : (program : Program) (policy : List ℕ) (labels : Labels) → GivesLabels program policy labels → IsTypedProgram program → IsWellLabelled program labels → IsFormOf program labels → IsFirstForm program policy labels
-first_form program policy labels gives typed well f = record { labels_are = gives; one_code = f.one_code; no_rows = f.no_rows; plain = plain_of program labels typed well f }
+first_form program policy labels gives typed well f = record { labels_are = gives; plain = plain_of program labels typed well f }
 
 -- the verdict on the program is the decision
 pub decided : (program : Program) (labels : Labels) (decision : Decision) → IsFormOf program labels → IsVerdict program labels decision → IsDecision program labels decision
@@ -57,8 +57,8 @@ plain_operation program labels m code pc (then at next operation found goes more
 
 pub short_code : (program : Program) (labels : Labels) → HasShortLimits program labels.entry → IsFormOf program labels → HasShortCode program labels.entry
 short_code program labels limits form code at =
-    let same : form.plain.0 ≡ code = same_Some form.plain.0 code (sym form.plain.1 ∙ at) in
-    let stands = plain_operation program labels labels.entry form.plain.0 0 form.plain.2 in
+    let same : form.0 ≡ code = same_Some form.0 code (sym form.1 ∙ at) in
+    let stands = plain_operation program labels labels.entry form.0 0 form.2 in
     let here : operation_in (Some code) 0 ≡ Some stands.0 = ap (λ (c : Option Code). operation_in c 0) (sym at) ∙ stands.1 in
     let small = limits code at in
     (short_operation code 0 stands.0 here, small.0, small.1)

@@ -1,5 +1,5 @@
--- Plain code that catches nothing is typed as plain code where its method is typed: its one path is a typing path, and meets no
--- fault.
+-- Plain code is typed as plain code where its method is typed: it can't be that its one path, which takes no row, is no typing path, and
+-- a typing path meets no fault.
 use Rattle.std.proofs.Common.{◌≡◌, ◌⊎◌, inl, inr, ◌∙◌, ℕ, zero, suc, ◌<◌, ◌≤◌, ◌^◌, ◌+◌, ◌-◌, Bool, true, false, not, ◌&&◌, ◌||◌, cond, nat_lt, List, [], ◌∷◌, ◌++◌, length, map, drop, take, replicate, Contains, Option, Some, None, refl, sym, ap, subst, arith, length-append, length-drop, length-set}
 use Rattle.std.specs.Prelude.{◌==◌, ℤ, pos, nat_abs, ◌+ℤ◌, ◌-ℤ◌, is_some, Result, Ok, Err, IsSome, option_and_then, option_map, slice_get, slice_index_or, slice_set, codes, ⊤}
 use Rattle.std.specs.List.{AllByRecursion, list_any}
@@ -22,7 +22,6 @@ use Rattle.jo_prog.specs.declared.program.Program.{Program}
 use Rattle.jo_prog.specs.declared.program.Method.{Method}
 use Rattle.jo_prog.specs.declared.program.Code.{Code}
 use Rattle.jo_prog.specs.declared.program.Class.{Class}
-use Rattle.jo_prog.specs.declared.program.Row.{Row}
 use Rattle.jo_prog.specs.declared.program.TypeRef.{TypeRef}
 use Rattle.jo_prog.specs.declared.program.TypeRef.TheVariants.{Class as OfClass, Array as OfArray}
 use Rattle.jo_prog.specs.declared.program.MemberRef.{MemberRef}
@@ -34,7 +33,7 @@ use Rattle.jo_prog.specs.declared.labels.Labels.{Labels}
 use Rattle.jo_prog.specs.declared.labels.Label.{Label}
 use Rattle.jo_prog.specs.declared.labels.Label.TheVariants.{Source, Sink, Release}
 use Rattle.jo_prog.specs.declared.typed.TypeCode.{TypeCode}
-use Rattle.jo_prog.specs.declared.typed.TypeCode.TheVariants.{Underflow, Overflow, WrongKind, FallsOff, LocalRange}
+use Rattle.jo_prog.specs.declared.typed.TypeCode.TheVariants.{Underflow, Overflow, HeightDiffers, WrongKind, FallsOff, LocalRange}
 use Rattle.jo_prog.specs.Labels.{label_of, label_among}
 use Rattle.jo_prog.specs.Operations.{within, operation_of}
 use Rattle.jo_prog.specs.Program.{method_at, class_at, code_at, as_operation, operation_in, operation_at, callee_of, callee_at, operand_at, has_signature, first_with, resolve_owned, resolve_operand}
@@ -44,8 +43,8 @@ use Rattle.jo_prog.specs.PlainCode.{IsLabelledNative, IsWellLabelled, desc_for, 
 use Rattle.jo_prog.specs.Shapes.{AnInt, Always, Effect, after, kind_from, passes, all_pass}
 use Rattle.jo_prog.specs.InsnTyping.{stack_effect, wrong_effect, loads_int, stores_int, result_kind, plain_effect, named_effect, call_effect as call_effect_by, effect_of, as_placed, insn_at, falls_through, successors, is_inside, receiver_kinds, param_kinds, locals_at_start}
 use Rattle.jo_prog.specs.Typing.{Kind, Int, Null, Ref, Unset, Shape, After, with_stack, pop_ints, push_ints, exchange, exchange_by, loaded, stored, call_effect, call_effect_of, shape_after, typed_at, Arrives, at_start, by_step, IsTypedCode}
-use Rattle.jo_prog.specs.TypingPaths.{Typable, effect_in, effect_at, leads_outside, handler_outside, catches_wrong, successors_at, is_covered, underflows, height_after, overflows, falls_off, is_local, is_written_local, out_of_range, local_passes, wrong_kind, Step, arrives_at, shape_of, height_of, IsLess, IsPlainAlone, pcs_of, handlers_of, IsBefore, shorter, by_pcs, by_rows, ends_at, TakesStep, PathWithin, TypingPath, MeetsAtEnd, IsTypedMethod}
-use Rattle.jo_prog.proofs.Decoding.{operation_at-next, callee_at-found}
+use Rattle.jo_prog.specs.TypingPaths.{Typable, effect_in, effect_at, leads_outside, handler_outside, catches_wrong, successors_at, is_covered, underflows, height_after, overflows, falls_off, is_local, is_written_local, out_of_range, local_passes, wrong_kind, Step, arrives_at, shape_of, height_of, IsLess, IsPlainAlone, pcs_of, handlers_of, IsBefore, shorter, by_pcs, by_rows, IsFirst, ends_at, PathWithin, TypingPath, MeetsAtEnd, IsTypedMethod}
+use Rattle.jo_prog.proofs.Decoding.{callee_at-found}
 use Rattle.jo_prog.proofs.TypingPaths.{one_height, typed_at-leads, leads_on-return, leads_on-next_pc}
 
 -- ---- tests
@@ -510,41 +509,95 @@ stands code pc next operation e =
     let found = stands_in pc next operation (nat_lt (length code.bytes) (2 ^ 16)) (decoded code.bytes pc) e in
     record { insn = found.0; is = found.1; acts = found.2 }
 
+-- ---- paths have a first one
+
+-- what comes before it comes to an end
+data Ends {A : Type 0} (R : A → A → Type 0) : A → Type 0 where
+  ends_with : (y : A) → ((x : A) → R x y → Ends R x) → Ends R y
+
+below_ends : (n k : ℕ) → k < n → Ends ◌<◌ k
+below_ends zero k less = absurd (omega arith)
+below_ends (suc n) k less = ends_with k (λ j lower. below_ends n j (omega (arith, less, lower)))
+
+pcs_end : (n : ℕ) → Ends ◌<◌ n
+pcs_end n = below_ends (suc n) n (omega arith)
+
+plain_ends : Ends IsPlainAlone false
+plain_ends = ends_with false (λ x less. absurd (false≢true less.1))
+
+rows_end : (b : Bool) → Ends IsPlainAlone b
+rows_end false = plain_ends
+rows_end true = ends_with true (λ x less. subst (λ (b : Bool). Ends IsPlainAlone b) (sym less.0) plain_ends)
+
+module _ {A : Type 0} (R : A → A → Type 0) (all : (x : A) → Ends R x) where
+  with_head : (ys : List A) → ((zs : List A) → IsLess R zs ys → (z : A) → Ends (IsLess R) (z ∷ zs)) → (y : A) → Ends R y → Ends (IsLess R) (y ∷ ys)
+  with_head ys tails y (ends_with _ heads) = ends_with (y ∷ ys) (λ zs less. by_case (λ z lower. with_head ys tails z (heads z lower)) zs less)
+    where
+      by_case : ((z : A) → R z y → Ends (IsLess R) (z ∷ ys)) → (zs : List A) → IsLess R zs (y ∷ ys) → Ends (IsLess R) zs
+      by_case again [] less = absurd less
+      by_case again (z ∷ zs) (inl less) = tails zs less z
+      by_case again (z ∷ zs) (inr less) = subst (λ (rest : List A). Ends (IsLess R) (z ∷ rest)) (sym less.0) (again z less.1)
+
+  with_tail : (ys : List A) → Ends (IsLess R) ys → (y : A) → Ends (IsLess R) (y ∷ ys)
+  with_tail ys (ends_with _ tails) y = with_head ys (λ zs less z. with_tail zs (tails zs less) z) y (all y)
+
+  lists_end : (ys : List A) → Ends (IsLess R) ys
+  lists_end [] = ends_with [] (λ zs less. nothing zs less)
+    where
+      nothing : (zs : List A) → IsLess R zs [] → Ends (IsLess R) zs
+      nothing [] less = absurd less
+      nothing (z ∷ zs) less = absurd less
+  lists_end (y ∷ ys) = with_tail ys (lists_end ys) y
+
+module _ (n : ℕ) (shorter_end : (q : List Step) → length q < n → Ends IsBefore q) where
+  by_handlers : (xs : List ℕ) → ((ys : List ℕ) → IsLess ◌<◌ ys xs → (q : List Step) → pcs_of q ≡ ys → length q < suc n → Ends IsBefore q)
+      → (hs : List Bool) → Ends (IsLess IsPlainAlone) hs → (p : List Step) → pcs_of p ≡ xs → handlers_of p ≡ hs → length p < suc n → Ends IsBefore p
+  by_handlers xs lower hs (ends_with _ handlers) p pcs_are hs_are less =
+      ends_with p (λ q before. by_case (λ q lesser are long. by_handlers xs lower (handlers_of q) (handlers (handlers_of q) lesser) q are refl long) q before)
+    where
+      same_length : (q : List Step) → pcs_of q ≡ pcs_of p → length q ≡ length p
+      same_length q same = sym (length-map q (λ (step : Step). step.pc)) ∙ ap length same ∙ length-map p (λ (step : Step). step.pc)
+
+      by_case : ((q : List Step) → IsLess IsPlainAlone (handlers_of q) hs → pcs_of q ≡ xs → length q < suc n → Ends IsBefore q) → (q : List Step) → IsBefore q p → Ends IsBefore q
+      by_case again q (shorter fewer) = shorter_end q (omega (arith, fewer, less))
+      by_case again q (by_pcs same lesser) = lower (pcs_of q) (subst (λ (ys : List ℕ). IsLess ◌<◌ (pcs_of q) ys) pcs_are lesser) q refl (omega (arith, same, less))
+      by_case again q (by_rows same lesser) =
+          let long = same_length q same in
+          again q (subst (λ (bs : List Bool). IsLess IsPlainAlone (handlers_of q) bs) hs_are lesser) (same ∙ pcs_are) (omega (arith, long, less))
+
+  by_places : (xs : List ℕ) → Ends (IsLess ◌<◌) xs → (p : List Step) → pcs_of p ≡ xs → length p < suc n → Ends IsBefore p
+  by_places xs (ends_with _ pcs) p pcs_are less =
+      by_handlers xs (λ ys lesser q are below. by_places ys (pcs ys lesser) q are below) (handlers_of p) (lists_end IsPlainAlone rows_end (handlers_of p)) p pcs_are refl less
+
+paths_below_end : (n : ℕ) (p : List Step) → length p < n → Ends IsBefore p
+paths_below_end zero p less = absurd (omega arith)
+paths_below_end (suc n) p less = by_places n (paths_below_end n) (pcs_of p) (lists_end ◌<◌ pcs_end (pcs_of p)) p refl less
+
+paths_end : (p : List Step) → Ends IsBefore p
+paths_end p = paths_below_end (suc (length p)) p (omega arith)
+
+-- where there is a path of some sort, it can't be that none of that sort is first
+never_none : (P : List Step → Type 0) (p : List Step) → Ends IsBefore p → P p → ((f : List Step) → P f → ((q : List Step) → P q → IsBefore q f → ⊥) → ⊥) → ⊥
+never_none P p (ends_with _ before) is unmet = unmet p is (λ q is_q less. never_none P q (before q less) is_q unmet)
+
 -- ---- the path of plain code
-
-never_less : {A : Type 0} (Less : A → A → Type 0) → ((x : A) → Less x x → ⊥) → (xs : List A) → IsLess Less xs xs → ⊥
-never_less Less never [] less = less
-never_less Less never (x ∷ xs) (inl less) = never_less Less never xs less
-never_less Less never (x ∷ xs) (inr less) = never x less.1
-
-pcs_never : (x : ℕ) → x < x → ⊥
-pcs_never x less = omega (arith, less)
-
-rows_never : (x : Bool) → IsPlainAlone x x → ⊥
-rows_never x less = false≢true (sym less.0 ∙ less.1)
-
-not_before_itself : (p : List Step) → IsBefore p p → ⊥
-not_before_itself p (shorter less) = omega (arith, less)
-not_before_itself p (by_pcs same less) = never_less ◌<◌ pcs_never (pcs_of p) less
-not_before_itself p (by_rows same less) = never_less IsPlainAlone rows_never (handlers_of p) less
 
 is_typing : (program : Program) (t : Typable) (n : ℕ) (p : List Step) → PathWithin program t n p → TypingPath program t p
 is_typing program t zero p h = subst (λ (q : List Step). TypingPath program t q) (sym h) refl
 is_typing program t (suc n) p (inl h) = is_typing program t n p h
 is_typing program t (suc n) p (inr h) = subst (λ (k : ℕ). PathWithin program t k p) (sym h.0) (inr h)
 
-bounded : (program : Program) (t : Typable) (n : ℕ) (p : List Step) → PathWithin program t n p → length p ≤ n
-bounded program t zero p h = subst (λ (q : List Step). length q ≤ 0) (sym h) (omega arith)
-bounded program t (suc n) p (inl h) = let k = bounded program t n p h in omega (arith, k)
-bounded program t (suc n) p (inr h) = let e = h.0 in omega (arith, e)
-
--- a path prolongs a typing path
-tail_of : (program : Program) (t : Typable) (step : Step) (path : List Step) → TypingPath program t (step ∷ path) → TypingPath program t path × TakesStep t.code (arrives_at path) step.row step.pc
-tail_of program t step path (inl h) = absurd (let k = bounded program t (length path) (step ∷ path) h in omega (arith, k))
-tail_of program t step path (inr h) = (h.1.is_path, h.1.takes)
+within_more : (program : Program) (t : Typable) (p : List Step) (n : ℕ) → PathWithin program t n p → (more : ℕ) → PathWithin program t (more + n) p
+within_more program t p n h zero = let same : n ≡ 0 + n = omega arith in subst (λ (k : ℕ). PathWithin program t k p) same h
+within_more program t p n h (suc more) =
+    let same : suc (more + n) ≡ suc more + n = omega arith in
+    subst (λ (k : ℕ). PathWithin program t k p) same (one_more (more + n) (within_more program t p n h more))
+  where
+    one_more : (k : ℕ) → PathWithin program t k p → PathWithin program t (suc k) p
+    one_more k is = inl is
 
 module _ (program : Program) (labels : Labels) (m : ℕ) (method : Method) (code : Code) (found : method_at program m ≡ Some method) (has : method.code ≡ Some code)
-    (natives : AllByRecursion (IsLabelledNative program labels) labels.labelled) (no_rows : code.rows ≡ []) (plain : IsPlainFrom program labels m code 0) (typed : IsTypedMethod program m) where
+    (natives : AllByRecursion (IsLabelledNative program labels) labels.labelled) (plain : IsPlainFrom program labels m code 0) (typed : IsTypedMethod program m) where
   abbrev subject : Typable
   subject = record { number = m; method = method; code = code }
 
@@ -561,80 +614,6 @@ module _ (program : Program) (labels : Labels) (m : ℕ) (method : Method) (code
       ∙ ap (λ (by : List ℤ). map (λ (z : ℤ). pos pc +ℤ z) by ++ cond (falls_through at.insn) (pos next ∷ []) []) jumps
       ∙ ap (λ (c : Bool). cond {A = List ℤ} c (pos next ∷ []) []) falls
 
-  -- where a step from plain code leads
-  record Leads (pc : ℕ) (row : Option ℕ) (to : ℕ) : Type 0 where
-    no_row : row ≡ None
-    operation : Operation
-    stands : operation_at program m pc ≡ Some (operation, to)
-    on : IsPlainFrom program labels m code to
-
-  leads : (pc : ℕ) (row : Option ℕ) (to : ℕ) → IsPlainFrom program labels m code pc → TakesStep code pc row to → Leads pc row to
-  leads pc (Some place) to at takes =
-      absurd (none-some takes.row (sym (ap (λ (rows : List Row). slice_get rows place) no_rows) ∙ takes.found))
-  leads pc None to (last here next at end) takes =
-      let s = stands_at pc next Return at in
-      let way = no_way code.bytes s.insn s.acts in
-      absurd (contains_none (pos to) (subst (λ (ways : List ℤ). Contains ways (pos to)) (successors_are pc next Return false s way.0 way.1) takes))
-  leads pc None to (then here next operation at on_so more) takes =
-      let s = stands_at pc next operation at in
-      let way = ways code.bytes (callee_at program m pc) labels s.insn operation s.acts on_so in
-      let same : next ≡ to = pos_same next to (contains_one (pos next) (pos to) (subst (λ (ways : List ℤ). Contains ways (pos to)) (successors_are pc next operation true s way.0 way.1) takes)) in
-      record {
-        no_row = refl;
-        operation = operation;
-        stands = subst (λ (n : ℕ). operation_at program m pc ≡ Some (operation, n)) same at;
-        on = subst (λ (n : ℕ). IsPlainFrom program labels m code n) same more;
-      }
-
-  plain_at : (path : List Step) → TypingPath program subject path → IsPlainFrom program labels m code (arrives_at path)
-  plain_at [] is = plain
-  plain_at (step ∷ path) is =
-      let tail = tail_of program subject step path is in (leads (arrives_at path) step.row step.pc (plain_at path tail.0) tail.1).on
-
-  led : (step : Step) (path : List Step) → TypingPath program subject (step ∷ path) → Leads (arrives_at path) step.row step.pc
-  led step path is = let tail = tail_of program subject step path is in leads (arrives_at path) step.row step.pc (plain_at path tail.0) tail.1
-
-  next_same : (from other to end : ℕ) (a b : Operation) → from ≡ other → operation_at program m from ≡ Some (a, to) → operation_at program m other ≡ Some (b, end) → to ≡ end
-  next_same from other to end a b same e f = (some_pair_parts a b to end (sym e ∙ ap (operation_at program m) same ∙ f)).1
-
-  -- paths of one length are one
-  same_path : (p q : List Step) → TypingPath program subject p → TypingPath program subject q → length p ≡ length q → p ≡ q
-  same_path [] [] one other long = refl
-  same_path [] (b ∷ q) one other long = absurd (omega (arith, long))
-  same_path (a ∷ p) [] one other long = absurd (omega (arith, long))
-  same_path (a ∷ p) (b ∷ q) one other long =
-      let tails : p ≡ q = same_path p q (tail_of program subject a p one).0 (tail_of program subject b q other).0 (omega (arith, long)) in
-      let first = led a p one in
-      let second = led b q other in
-      let pcs : a.pc ≡ b.pc = next_same (arrives_at p) (arrives_at q) a.pc b.pc first.operation second.operation (ap arrives_at tails) first.stands second.stands in
-      let rows : a.row ≡ b.row = first.no_row ∙ sym second.no_row in
-      ap (λ (n : ℕ). record { pc = n; row = a.row } ∷ p) pcs ∙ ap (λ (r : Option ℕ). record { pc = b.pc; row = r } ∷ p) rows ∙ ap (λ (rest : List Step). b ∷ rest) tails
-
-  -- a longer one arrives further on
-  further : (p q : List Step) → TypingPath program subject p → TypingPath program subject q → length p < length q → arrives_at p < arrives_at q
-  further p [] one other less = absurd (omega (arith, less))
-  further p (b ∷ q) one other less =
-      let tail = (tail_of program subject b q other).0 in
-      let here = led b q other in
-      let up = operation_at-next program m (arrives_at q) b.pc here.operation here.stands in
-      elim (cases_lt (length p) (length q)) [
-        | inl shorter_still ↦ let before = further p q one tail shorter_still in omega (arith, before, up)
-        | inr long ↦
-            let same : arrives_at p ≡ arrives_at q = ap arrives_at (same_path p q one tail (omega (arith, less, long))) in
-            omega (arith, same, up)
-      ]
-
-  never_before : (p other : List Step) → TypingPath program subject p → TypingPath program subject other → arrives_at other ≡ arrives_at p → IsBefore other p → ⊥
-  never_before p other is one to before =
-      elim (cases_order (length other) (length p)) [
-        | inl same ↦ not_before_itself p (subst (λ (q : List Step). IsBefore q p) (same_path other p one is same) before)
-        | inr apart ↦
-            elim apart [
-              | inl less ↦ (let up = further other p one is less in omega (arith, up, to))
-              | inr more ↦ (let up = further p other is one more in omega (arith, up, to))
-            ]
-      ]
-
   -- ---- it meets no fault
 
   no_fault_at : (path : List Step) → TypingPath program subject path → (fault : TypeCode) → MeetsAtEnd program subject path fault → ⊥
@@ -647,31 +626,63 @@ module _ (program : Program) (labels : Labels) (m : ℕ) (method : Method) (code
       let off = false_from_ne_true (falls_off code (arrives_at path)) (no_fault_at path is FallsOff) in
       or_from _ _ (or_from _ _ under over) off
 
-  prolonged : (path : List Step) (next : ℕ) → TypingPath program subject path → Contains (successors_at code (arrives_at path)) (pos next) → TypingPath program subject (record { pc = next; row = None } ∷ path)
-  prolonged path next is takes = inr (
-    refl,
-    record {
-      is_path = is;
-      goes_on = record {
-        steady = steady path is;
-        first = path;
-        is_first = record {
+  first_below : (path f : List Step) → TypingPath program subject path → IsFirst (TypingPath program subject) (arrives_at path) f → length f ≤ length path
+  first_below path f is first =
+      elim (cases_lt (length path) (length f)) [
+        | inl fewer ↦ absurd (first.first path is refl (shorter fewer))
+        | inr low ↦ low
+      ]
+
+  first_within : (path f : List Step) → TypingPath program subject path → IsFirst (TypingPath program subject) (arrives_at path) f
+      → IsFirst (PathWithin program subject (length path)) (arrives_at path) f
+  first_within path f is first =
+      let low = first_below path f is first in
+      record {
+        is_path = subst (λ (k : ℕ). PathWithin program subject k f) (omega (arith, low)) (within_more program subject f (length f) first.is_path (length path - length f));
+        arrives = first.arrives;
+        first = λ other within to before. first.first other (is_typing program subject (length path) other within) to before;
+      }
+
+  -- the first path that arrives there does with the same height
+  same_height : (path f : List Step) → TypingPath program subject path → IsFirst (TypingPath program subject) (arrives_at path) f → height_of program subject f ≡ height_of program subject path
+  same_height path f is first =
+      elim (cases_order (height_of program subject f) (height_of program subject path)) [
+        | inl same ↦ same
+        | inr apart ↦ absurd (no_fault_at path is HeightDiffers (record { first = f; is_first = first; other_height = λ same. unequal (height_of program subject f) (height_of program subject path) apart same }))
+      ]
+    where
+      unequal : (a b : ℕ) → (a < b) ⊎ (b < a) → a ≡ b → ⊥
+      unequal a b (inl less) same = omega (arith, less, same)
+      unequal a b (inr more) same = omega (arith, more, same)
+
+  -- it goes on, as it can't be that no path arrives there first
+  prolonged : (path : List Step) (next : ℕ) → TypingPath program subject path → Contains (successors_at code (arrives_at path)) (pos next)
+      → (TypingPath program subject (record { pc = next; row = None } ∷ path) → ⊥) → ⊥
+  prolonged path next is takes never =
+      never_none (λ (q : List Step). TypingPath program subject q × (arrives_at q ≡ arrives_at path)) path (paths_end path) (is, refl)
+      (λ f of nothing. never (goes f (record { is_path = of.0; arrives = of.1; first = λ other within to before. nothing other (within, to) before })))
+    where
+      goes : (f : List Step) → IsFirst (TypingPath program subject) (arrives_at path) f → TypingPath program subject (record { pc = next; row = None } ∷ path)
+      goes f first = inr (
+        refl,
+        record {
           is_path = is;
-          arrives = refl;
-          first = λ other within to before. never_before path other is (is_typing program subject (length path) other within) to before;
-        };
-        same_height = refl;
-      };
-      takes = takes;
-    },
-  )
+          goes_on = record {
+            steady = steady path is;
+            first = f;
+            is_first = first_within path f is first;
+            same_height = same_height path f is first;
+          };
+          takes = takes;
+        },
+      )
 
   -- ---- it goes on as plain code does
 
   record Stepped (path : List Step) (next : ℕ) (s : Shape) : Type 0 where
     shape : Shape
     typed_is : typed_at program m code (arrives_at path) s ≡ Some (record { next = Some next; shape = shape })
-    on_path : TypingPath program subject (record { pc = next; row = None } ∷ path)
+    on_path : (TypingPath program subject (record { pc = next; row = None } ∷ path) → ⊥) → ⊥
     alike : Alike shape (shape_of program subject (record { pc = next; row = None } ∷ path))
     count : length shape.locals ≡ code.max_locals
 
@@ -762,40 +773,42 @@ module _ (program : Program) (labels : Labels) (m : ℕ) (method : Method) (code
     path : List Step
     is_path : TypingPath program subject path
     arrives : arrives_at path ≡ pc
+    on : IsPlainFrom program labels m code pc
     alike : Alike s (shape_of program subject path)
     count : length s.locals ≡ code.max_locals
 
   goes_along : (path : List Step) (pc next : ℕ) (s : Shape) (then_at : After) → TypingPath program subject path → arrives_at path ≡ pc → Alike s (shape_of program subject path) → length s.locals ≡ code.max_locals
-      → IsPlainFrom program labels m code pc → typed_at program m code pc s ≡ Some then_at → then_at.next ≡ Some next → Followed next then_at.shape
-  goes_along path pc next s then_at is to alike count (last here end at stop) e f =
+      → IsPlainFrom program labels m code pc → typed_at program m code pc s ≡ Some then_at → then_at.next ≡ Some next → (Followed next then_at.shape → ⊥) → ⊥
+  goes_along path pc next s then_at is to alike count (last here end at stop) e f never =
       absurd (none-some next (ap (λ (a : After). a.next) (same_Some _ then_at (sym (ends pc end s at) ∙ e)) ∙ f))
-  goes_along path pc next s then_at is to alike count (then here end operation at on more) e f =
+  goes_along path pc next s then_at is to alike count (then here end operation at on more) e f never =
       let at_path : operation_at program m (arrives_at path) ≡ Some (operation, end) = ap (operation_at program m) to ∙ at in
       let on_there : goes_on labels (callee_at program m (arrives_at path)) operation ≡ true = ap (λ (n : ℕ). goes_on labels (callee_at program m n) operation) to ∙ on in
       let step = stepped path is end operation at_path on_there s alike count in
       let same : record { next = Some end; shape = step.shape } ≡ then_at = same_Some _ then_at (sym step.typed_is ∙ ap (λ (n : ℕ). typed_at program m code n s) to ∙ e) in
       let shapes : step.shape ≡ then_at.shape = ap (λ (a : After). a.shape) same in
-      record {
+      let there : end ≡ next = same_Some end next (ap (λ (a : After). a.next) same ∙ f) in
+      step.on_path (λ longer. never (record {
         path = record { pc = end; row = None } ∷ path;
-        is_path = step.on_path;
-        arrives = same_Some end next (ap (λ (a : After). a.next) same ∙ f);
+        is_path = longer;
+        arrives = there;
+        on = subst (λ (n : ℕ). IsPlainFrom program labels m code n) there more;
         alike = subst (λ (x : Shape). Alike x (shape_of program subject (record { pc = end; row = None } ∷ path))) shapes step.alike;
         count = subst (λ (x : Shape). length x.locals ≡ code.max_locals) shapes step.count;
-      }
+      }))
 
   module _ (is_static : has_flag static_flag method.flags ≡ true) (entry : is_entry_desc method.desc ≡ true) where
-    follow : {pc : ℕ} {s : Shape} → Arrives program m code pc s → Followed pc s
-    follow at_start = record {
+    follow : {pc : ℕ} {s : Shape} → Arrives program m code pc s → (Followed pc s → ⊥) → ⊥
+    follow at_start never = never (record {
       path = [];
       is_path = refl;
       arrives = refl;
+      on = plain;
       alike = record { stack = refl; locals = start_alike program method code.max_locals is_static entry };
       count = length-replicate code.max_locals Unset;
-    }
-    follow (by_step pc next s then_at h e f) =
-        let before = follow h in
-        goes_along before.path pc next s then_at before.is_path before.arrives before.alike before.count
-        (subst (λ (n : ℕ). IsPlainFrom program labels m code n) before.arrives (plain_at before.path before.is_path)) e f
+    })
+    follow (by_step pc next s then_at h e f) never =
+        follow h (λ before. goes_along before.path pc next s then_at before.is_path before.arrives before.alike before.count before.on e f never)
 
     goes_or_ends : (path : List Step) (pc : ℕ) (s : Shape) → TypingPath program subject path → arrives_at path ≡ pc → Alike s (shape_of program subject path) → length s.locals ≡ code.max_locals
         → IsPlainFrom program labels m code pc → IsSome (typed_at program m code pc s)
@@ -806,17 +819,20 @@ module _ (program : Program) (labels : Labels) (m : ℕ) (method : Method) (code
         let step = stepped path is end operation at_path on_there s alike count in
         ap is_some (ap (λ (n : ℕ). typed_at program m code n s) (sym to) ∙ step.typed_is)
 
-    no_fault_there : (pc : ℕ) (s : Shape) → Followed pc s → IsSome (typed_at program m code pc s)
-    no_fault_there pc s f =
-        goes_or_ends f.path pc s f.is_path f.arrives f.alike f.count (subst (λ (n : ℕ). IsPlainFrom program labels m code n) f.arrives (plain_at f.path f.is_path))
+    no_fault_there : (pc : ℕ) (s : Shape) → ((Followed pc s → ⊥) → ⊥) → IsSome (typed_at program m code pc s)
+    no_fault_there pc s followed = by_test (is_some (typed_at program m code pc s)) refl
+      where
+        by_test : (b : Bool) → is_some (typed_at program m code pc s) ≡ b → b ≡ true
+        by_test true e = refl
+        by_test false e = absurd (followed (λ f. false≢true (sym e ∙ goes_or_ends f.path pc s f.is_path f.arrives f.alike f.count f.on)))
 
     typed_code : IsTypedCode program m code
     typed_code = record { no_fault = λ pc s h. no_fault_there pc s (follow h); one_height = λ pc s t h i. one_height program m code h i }
 
--- The entry's code is typed as plain code where it is plain, catches nothing, and its method is typed.
-pub plain_typed : (program : Program) (labels : Labels) (code : Code) → IsWellLabelled program labels → code_at program labels.entry ≡ Some code → code.rows ≡ [] → IsPlainFrom program labels labels.entry code 0
+-- The entry's code is typed as plain code where it is plain and its method is typed.
+pub plain_typed : (program : Program) (labels : Labels) (code : Code) → IsWellLabelled program labels → code_at program labels.entry ≡ Some code → IsPlainFrom program labels labels.entry code 0
     → IsTypedMethod program labels.entry → IsTypedCode program labels.entry code
-plain_typed program labels code well at no_rows plain typed =
+plain_typed program labels code well at plain typed =
     let entry = well.entry in
     let has : entry.method.code ≡ Some code = sym (ap (option_and_then (λ (x : Method). x.code)) entry.found) ∙ at in
-    typed_code program labels labels.entry entry.method code entry.found has well.natives no_rows plain typed entry.is_static entry.shape
+    typed_code program labels labels.entry entry.method code entry.found has well.natives plain typed entry.is_static entry.shape

@@ -1,13 +1,11 @@
 -- `check CLASSES POLICY`: the program that the files make, what it shows of it, and what refuses the files. Programs are of the
--- first form: of the methods of the class files the entry alone has code, one straight line.
-use Rattle.std.specs.Prelude.{◌≡◌, ℕ, ◌^◌, ◌<◌, Bool, ◌&&◌, true, List, [], Some, is_some, Result, Ok, Err, codes, ⊤}
+-- first form: the entry's code is one straight line.
+use Rattle.std.specs.Prelude.{◌≡◌, ℕ, ◌^◌, ◌<◌, List, Some, Result, Ok, Err, codes, ⊤}
 use Rattle.class_pool.specs.declared.classes.ClassFile.{ClassFile}
 use Rattle.jo_prog.specs.declared.program.Program.{Program}
-use Rattle.jo_prog.specs.declared.program.Method.{Method}
 use Rattle.jo_prog.specs.declared.program.Code.{Code}
 use Rattle.jo_prog.specs.declared.labels.Labels.{Labels}
-use Rattle.jo_prog.specs.Program.{code_at, method_at}
-use Rattle.jo_prog.specs.FileClasses.{is_of_files}
+use Rattle.jo_prog.specs.Program.{code_at}
 use Rattle.jo_prog.specs.PlainCode.{IsPlainFrom, IsPlainProgram}
 use Rattle.dep_nodes.specs.Nodes.{Node}
 use Rattle.dep_nodes.specs.Chains.{Link}
@@ -40,31 +38,14 @@ IsClean program labels = HasCleanGraph program labels
 abbrev pub IsReportOf : Program → Labels → List ℕ → Type 0
 IsReportOf program labels text = HasReport program labels text
 
--- the method has code, and is one of the class files
-abbrev pub has_file_code : Program → Method → Bool
-has_file_code program method = is_some method.code && is_of_files program method
-
--- of the methods of the class files no other than the entry has code
-abbrev pub HasOneCode : Program → ℕ → Type 0
-HasOneCode program entry =
-    (m : ℕ) (method : Method) → method_at program m ≡ Some method → has_file_code program method ≡ true → m ≡ entry
-
--- the code of a method has no row that catches an exception
-abbrev pub CatchesNothing : Program → ℕ → Type 0
-CatchesNothing program m = (code : Code) → code_at program m ≡ Some code → code.rows ≡ []
-
--- of the methods of the class files the entry alone has code, which catches nothing and is one straight line
-pub record IsFormOf (program : Program) (labels : Labels) : Type 0 where
-  pub one_code : HasOneCode program labels.entry
-  pub no_rows : CatchesNothing program labels.entry
-  pub plain : (code : Code) × (code_at program labels.entry ≡ Some code)
-      × IsPlainFrom program labels labels.entry code 0
+-- the entry's code is one straight line
+abbrev pub IsFormOf : Program → Labels → Type 0
+IsFormOf program labels =
+    (code : Code) × (code_at program labels.entry ≡ Some code) × IsPlainFrom program labels labels.entry code 0
 
 -- a policy of this text gives the program these labels, with which it is of the first form
 pub record IsFirstForm (program : Program) (policy : List ℕ) (labels : Labels) : Type 0 where
   pub labels_are : GivesLabels program policy labels
-  pub one_code : HasOneCode program labels.entry
-  pub no_rows : CatchesNothing program labels.entry
   pub plain : IsPlainProgram program labels
 
 -- The files of a check are in the first form: nothing refuses them, their classes are linked to this program, which is typed and to

@@ -10,17 +10,16 @@ ghost use Rattle.joana_base.specs.declared.answers.Stop.TheVariants.{Faulty};
 ghost use Rattle.joana_base.specs.declared.status.Refusal.TheVariants.{Input};
 ghost use Rattle.joana_base.specs.declared.status.InputFault.TheVariants.{NotBuilt};
 ghost use Rattle.joana_top.specs.Stops.{IsTypedProgram};
-ghost use Rattle.joana_top.specs.Check.{has_file_code, HasOneCode, CatchesNothing, HasLimits, HasShortLimits, IsFormOf, IsVerdict, IsDecision, IsShown, IsProgramOutcome, IsFilesOutcome, IsCheckOutcome};
+ghost use Rattle.joana_top.specs.Check.{HasLimits, HasShortLimits, IsFormOf, IsVerdict, IsDecision, IsShown, IsProgramOutcome, IsFilesOutcome, IsCheckOutcome};
 
 use super::stops::{linked, policy_for, type_methods};
 use hierarchy::Hierarchy;
 use jo_ids::MethodId;
 use jo_io::Files;
 use jo_policy::laws::policies_label_well;
-use jo_prog::files::is_of_files;
 use jo_prog::jvm_typing::is_plain;
 use jo_prog::labels::Labels;
-use jo_prog::program::{Method, Program, code_at};
+use jo_prog::program::{Program, code_at};
 use joana_base::{
     Answer, InputFault, ProgramFiles, ProgramNames, Refusal, Stop, classes_of, read_program,
 };
@@ -35,48 +34,6 @@ enum Decision {
     Accepted,
     /// The text of the report.
     Refused(Vec<u8>),
-}
-
-/// Whether the method has code and is one of the class files.
-fn has_file_code(program: &Program, method: &Method) -> bool
-    ensures { result ≡ has_file_code program.now method.now }
-{
-    method.code.is_some() && is_of_files(program, method)
-}
-
-/// Whether no method of the class files but the entry has code.
-fn has_one_code(program: &Program, entry: MethodId) -> bool
-    ensures { IsTrue result ↔ HasOneCode program.now entry }
-{
-    for (place, method) in program.methods.as_slice().iter().enumerate() {
-        if place != entry.number() as usize && has_file_code(program, method) {
-            return false;
-        }
-    }
-    true
-}
-
-/// Whether the entry's code catches nothing.
-fn catches_nothing(program: &Program, entry: MethodId) -> bool
-    ensures { IsTrue result ↔ CatchesNothing program.now entry }
-{
-    match code_at(program, entry) {
-        Some(code) => code.rows.as_slice().is_empty(),
-        None => true,
-    }
-}
-
-/// Whether the program with these labels is of the first form.
-fn is_first_form(program: &Program, labels: &Labels) -> bool
-    ensures { IsTrue result ↔ IsFormOf program.now labels.now }
-{
-    if !has_one_code(program, labels.entry) {
-        return false;
-    }
-    if !catches_nothing(program, labels.entry) {
-        return false;
-    }
-    is_plain(program, labels)
 }
 
 /// The limits of a method's code.
@@ -115,7 +72,7 @@ fn decide(alloc: Global, program: &Program, labels: &Labels) -> Result<Decision,
     requires well { IsWellLabelled program.now labels.now }
     ensures { IfOk result (IsDecision program.now labels.now) }
 {
-    if !is_first_form(program, labels) {
+    if !is_plain(program, labels) {
         return Ok(Decision::NotBuilt);
     }
     limits_are_short(program, labels.entry);
