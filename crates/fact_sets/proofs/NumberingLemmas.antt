@@ -1,8 +1,8 @@
 -- Sets of pairs whose equality is decided: where a pair stands, that each stands once, and what is there after one more.
-use Rattle.std.specs.Prelude.{Bool, IfSome, IfNone, position, if◌then◌else◌}
+use Rattle.std.specs.Prelude.{Bool, IfSome, position, if◌then◌else◌}
 use Rattle.std.specs.Bool.{Decides}
-use Rattle.std.specs.List.{list_any, AllByRecursion, IsDistinct}
-use Rattle.std.proofs.Common.{◌≡◌, ◌==◌, ◌&&◌, ◌⊎◌, inl, inr, true, false, ℕ, zero, suc, ◌<◌, Contains, List, [], ◌∷◌, ◌++◌, length, get_or, Option, Some, None, slice_get, refl, ap, sym, ◌∙◌, subst}
+use Rattle.std.specs.List.{list_any, IsDistinct}
+use Rattle.std.proofs.Common.{◌≡◌, ◌==◌, ◌&&◌, inl, inr, true, false, ℕ, zero, suc, Contains, List, [], ◌∷◌, ◌++◌, get_or, Option, Some, None, slice_get, refl, ap, sym, ◌∙◌}
 use Rattle.std.proofs.lemmas.Bool.Decides.{Decides-and, Decides-eqb, Decides-like}
 use Rattle.std.proofs.lemmas.List.Quantifiers.{position-Some}
 use Rattle.std.proofs.lemmas.List.Folds.{list_any_at}

@@ -1,12 +1,11 @@
 -- What numbered facts say: the same where more is numbered, each fact by one number and each number of one fact.
 use Rattle.std.specs.Prelude.{◌^◌}
-use Rattle.std.proofs.Common.{◌≡◌, ◌⊎◌, ◌↔◌, inl, inr, true, false, Bool, ℕ, zero, suc, ◌+◌, ◌<◌, ◌≤◌, Contains, List, [], ◌∷◌, ◌++◌, length, Option, Some, Result, Ok, Err, IfOk, slice_get, refl, ap, sym, ◌∙◌, subst, arith, length-append}
+use Rattle.std.proofs.Common.{◌≡◌, ◌⊎◌, ◌↔◌, inl, inr, true, false, ℕ, zero, suc, ◌+◌, ◌<◌, ◌≤◌, Contains, List, [], ◌∷◌, ◌++◌, length, Some, Result, Ok, Err, IfOk, slice_get, refl, ap, sym, ◌∙◌, subst, arith, length-append}
 use Rattle.std.proofs.lemmas.Option.{same_Some, slice_get_within}
 use Rattle.jo_ids.specs.declared.ObjKey.{ObjKey}
 use Rattle.dep_nodes.specs.OnceLists.{IsOnceEach}
 use Rattle.dep_nodes.specs.GrowingGraphs.{AppendsNew}
 use Rattle.dep_nodes.proofs.OnceLemmas.{once_push}
-use Rattle.dep_nodes.specs.declared.kinds.NodeKind.{NodeKind}
 use Rattle.dependence.specs.declared.facts.InstKey.{InstKey}
 use Rattle.dependence.specs.declared.facts.FactCell.{FactCell}
 use Rattle.dependence.specs.declared.facts.FactCell.TheVariants.{Field, Elements, Static}
@@ -19,8 +18,8 @@ use Rattle.fact_sets.specs.declared.numbered.Holder.TheVariants.{Node, Cell}
 use Rattle.fact_sets.specs.declared.numbered.CallPlace.{CallPlace}
 use Rattle.fact_sets.specs.declared.numbered.NumberedFact.{NumberedFact}
 use Rattle.fact_sets.specs.declared.numbered.NumberedFact.TheVariants.{Reached as IsReached, Holds as IsHeld, Calls as IsCalled, Throws as MayThrow, Stalls as MayStall}
-use Rattle.fact_sets.specs.FactLists.{FactLists, pair_of, object_pair, IsInstance, IsObject, IsCell, of_field, of_elements, of_static, IsCall, IsCallFact, Says, reached, held, in_cell, called, forked, throws, stalls, HasFact, Grows, AppendsEach, instances_in, objects_at, with_last, objects_in, CellWithin, FactWithin, AreFacts, AddsFact, lists_of}
-use Rattle.fact_sets.proofs.SliceLemmas.{at_left, at_push}
+use Rattle.fact_sets.specs.FactLists.{pair_of, object_pair, IsInstance, IsObject, IsCell, of_field, of_elements, of_static, IsCall, IsCallFact, Says, reached, held, in_cell, called, forked, throws, stalls, HasFact, Grows, AppendsEach, instances_in, with_last, objects_in, CellWithin, FactWithin, AreFacts, lists_of}
+use Rattle.fact_sets.proofs.SliceLemmas.{at_left}
 use Rattle.fact_sets.proofs.TableLemmas.{with_one}
 
 -- ---- lists that go on

@@ -1,6 +1,6 @@
 -- Tables of facts, after one more fact.
 use Rattle.std.specs.Prelude.{Bool}
-use Rattle.std.proofs.Common.{◌≡◌, ◌⊎◌, ◌↔◌, inl, inr, ℕ, Contains, List, [], ◌∷◌, ◌++◌, Result, Ok, Err, OnOk, refl, ap, sym, ◌∙◌, subst}
+use Rattle.std.proofs.Common.{◌≡◌, ◌⊎◌, ◌↔◌, inl, inr, ℕ, Contains, List, [], ◌∷◌, ◌++◌, Result, Ok, Err, OnOk, ap, sym, ◌∙◌, subst}
 use Rattle.std.proofs.lemmas.List.Elements.{Contains-append_left, Contains-append_cases}
 use Rattle.dependence.specs.declared.facts.Target.{Target}
 use Rattle.dep_nodes.proofs.ListedLemmas.{only_one, last_there}
@@ -8,7 +8,7 @@ use Rattle.fact_sets.specs.declared.numbered.Holder.{Holder}
 use Rattle.fact_sets.specs.declared.numbered.CallPlace.{CallPlace}
 use Rattle.fact_sets.specs.declared.numbered.NumberedFact.{NumberedFact}
 use Rattle.fact_sets.specs.declared.numbered.NumberedFact.TheVariants.{Reached, Holds, Calls, Throws, Stalls}
-use Rattle.fact_sets.specs.Groups.{HasIn, AddsUnder}
+use Rattle.fact_sets.specs.Groups.{HasIn}
 use Rattle.fact_sets.specs.Tables.{HeldTable, CalledTable, target_at, AreTables, AddFact}
 
 pub both_ways : {P Q R : Type 0} → P ↔ Q → Q ↔ R → P ↔ R

@@ -4,7 +4,7 @@ use Rattle.dependence.specs.declared.facts.Target.{Target}
 use Rattle.fact_sets.specs.declared.numbered.Holder.{Holder}
 use Rattle.fact_sets.specs.declared.numbered.CallPlace.{CallPlace}
 use Rattle.fact_sets.specs.declared.numbered.NumberedFact.{NumberedFact}
-use Rattle.fact_sets.specs.declared.numbered.NumberedFact.TheVariants.{Reached, Holds, Calls, Throws, Stalls}
+use Rattle.fact_sets.specs.declared.numbered.NumberedFact.TheVariants.{Holds, Calls}
 use Rattle.fact_sets.specs.Groups.{HasIn, AddsUnder}
 
 abbrev pub HeldTable : Type 0

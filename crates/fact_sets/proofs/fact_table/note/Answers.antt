@@ -1,4 +1,4 @@
-use Rattle.std.proofs.Common.{◌≡◌, OnOk, subst, sym, refl}
+use Rattle.std.proofs.Common.{OnOk, subst, sym, refl}
 use Rattle.fact_sets.specs.Tables.{AddFact}
 use Rattle.fact_sets.proofs.TableLemmas.{ok_more}
 use Rattle.fact_sets.proofs.fact_table.note.Goals as goal

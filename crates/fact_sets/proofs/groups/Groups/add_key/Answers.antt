@@ -1,5 +1,5 @@
 use Rattle.std.proofs.Common.{◌≡◌, OnOk, Contains, subst, sym}
-use Rattle.fact_sets.specs.Groups.{HasIn, AddsUnder}
+use Rattle.fact_sets.specs.Groups.{AddsUnder}
 use Rattle.fact_sets.proofs.GroupLemmas.{first_kept_is, first_under_is}
 use Rattle.fact_sets.proofs.groups.Groups.add_key.Goals as goal
 use Rattle.fact_sets.proofs.groups.Groups.add_key.Goals.{in-Ok, in-Err}
