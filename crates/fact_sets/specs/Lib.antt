@@ -1,0 +1,4 @@
+pub mod FactKeys
+pub mod FactLists
+pub mod Groups
+pub mod Tables

@@ -1,0 +1,2 @@
+pub mod CatchLemmas
+pub mod MadeLemmas
