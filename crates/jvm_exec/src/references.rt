@@ -141,7 +141,7 @@ pub(crate) fn is_of_class(
 }
 
 /// Whether what stands at an address is of a type.
-fn is_of_type(
+pub fn is_of_type(
     program: &Program,
     hierarchy: &Hierarchy,
     heap: &Heap,
