@@ -6,7 +6,8 @@ use jo_prog::program::TypeRef;
 use jo_text::{Base, FieldDesc, Name};
 use std::alloc::Global;
 
-fn copy_name(alloc: Global, name: &Name) -> Result<Name, Memory>
+/// The same name with memory of its own.
+pub fn copy_name(alloc: Global, name: &Name) -> Result<Name, Memory>
     ensures { IfOk result (λ copy. copy ≡ name.now) }
 {
     let mut copy = Name::new(alloc);

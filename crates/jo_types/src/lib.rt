@@ -4,5 +4,5 @@
 mod copies;
 mod descriptors;
 
-pub use copies::{copy_desc, copy_type};
+pub use copies::{copy_desc, copy_name, copy_type};
 pub use descriptors::{field_type, method_type};

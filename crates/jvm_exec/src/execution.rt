@@ -5,8 +5,8 @@ ghost use Rattle.jo_prog.specs.Machine.{Thread};
 ghost use Rattle.machine.specs.Execution as machine;
 ghost use Rattle.hierarchy.specs.Hierarchies.{IsHierarchyOf};
 ghost use Rattle.jvm_values.specs.Values.{value_of, popped_values};
-ghost use Rattle.resolved_insns.specs.Resolved.{seen, HasText};
-ghost use Rattle.resolved_insns.specs.declared.resolved.Instruction.TheVariants.{Shuffles};
+ghost use Rattle.jvm_values.specs.Resolved.{seen, HasText};
+ghost use Rattle.jvm_values.specs.declared.resolved.Instruction.TheVariants.{Shuffles};
 ghost use Rattle.jvm_exec.specs.Outcomes.{outcome_of};
 ghost use Rattle.jvm_exec.specs.Forms.{executes, state_with};
 
@@ -19,8 +19,7 @@ use crate::outcomes::{Effect, Outcome};
 use crate::references::{cast, check, compare_references, test_null, throw};
 use hierarchy::Hierarchy;
 use jo_prog::program::Program;
-use jvm_values::{Heap, InfoView, Value};
-use resolved_insns::Instruction;
+use jvm_values::{Heap, InfoView, Instruction, Value};
 
 /// How many values the shuffle with that opcode pops.
 fn shuffle_pops(op: u8) -> u32

@@ -1,7 +1,7 @@
 //! Instructions on ints.
 ghost use Rattle.std.specs.Prelude.{◌≡◌, map, Some, option_map};
 ghost use Rattle.machine.specs.Execution as machine;
-ghost use Rattle.resolved_insns.specs.Resolved.{case_of};
+ghost use Rattle.jvm_values.specs.Resolved.{case_of};
 ghost use Rattle.jvm_values.specs.Values.{popped_values};
 ghost use Rattle.jvm_exec.specs.Outcomes.{outcome_of};
 ghost use Rattle.jvm_exec.specs.Forms.{incremented, computed_by, negated_one, narrowed, tested, compared_ints, switched_to};
@@ -9,8 +9,7 @@ ghost use Rattle.jvm_exec.specs.Forms.{incremented, computed_by, negated_one, na
 use crate::outcomes::{Effect, Outcome};
 use crate::shapes::{one_int, two_ints};
 use jo_prog::sites::Cause;
-use jvm_values::{Value, int_op, int_test, narrow, negated};
-use resolved_insns::Case;
+use jvm_values::{Case, Value, int_op, int_test, narrow, negated};
 
 pub(crate) fn increment<'i>(local: u16, by: i16, values: &[Value]) -> Option<Outcome<'i>>
     ensures { option_map outcome_of result ≡ incremented local by (popped_values values.now) }

@@ -1,0 +1,5 @@
+pub mod StringLemmas
+mod PlainLemmas
+mod SwitchLemmas
+mod OperandLemmas
+pub mod TableLemmas

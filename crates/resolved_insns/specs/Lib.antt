@@ -1,1 +1,3 @@
-pub mod Resolved
+pub mod Strings
+pub mod Plain
+pub mod Tables

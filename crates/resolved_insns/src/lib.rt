@@ -1,6 +1,12 @@
 //! The instructions of a program with what they name looked up once.
 #![tactic(auto)]
 
-mod resolved;
+mod operands;
+mod plain;
+mod resolving;
+mod strings;
+mod switches;
+mod table;
 
-pub use resolved::{Case, Instruction, Resolved};
+pub use strings::Strings;
+pub use table::Instructions;

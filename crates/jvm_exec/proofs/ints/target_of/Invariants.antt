@@ -1,6 +1,6 @@
 use Rattle.std.proofs.Common.{◌≡◌, map, drop}
 use Rattle.machine.specs.Execution.{switched}
-use Rattle.resolved_insns.specs.Resolved.{case_of}
+use Rattle.jvm_values.specs.Resolved.{case_of}
 use Rattle.jvm_exec.proofs.ints.target_of.Given as goal
 
 abbrev pub invariant-loop-case : goal.invariant-loop-case

@@ -1,9 +1,9 @@
 //! Instructions with what they name looked up (JVM Specification SE 8, 6.5).
 
+use crate::values::Address;
 use jo_ids::{ClassId, FieldId, List, MethodId};
 use jo_prog::program::TypeRef;
 use jo_text::FieldDesc;
-use jvm_values::Address;
 
 /// A key of a switch, and the pc to which it leads.
 #[derive(Clone, Copy)]

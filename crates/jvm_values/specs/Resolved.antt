@@ -4,10 +4,10 @@ use Rattle.jo_prog.specs.declared.program.Program.{Program}
 use Rattle.jo_prog.specs.Constants.{string_constants, string_address}
 use Rattle.machine.specs.Instructions as machine
 use Rattle.machine.specs.Instructions.{instruction_at, passes, pushes_null, pushes_int, pushes_text, loads, stores, increments, loads_element, stores_element, shuffles, computes, negates, narrows, tests, compares, compares_references, tests_null, jumps_to, switches, returns_value, returns_nothing, gets_static, puts_static, gets_field, puts_field, creates, creates_array, measures, throws, casts, checks, calls}
-use Rattle.resolved_insns.specs.declared.resolved.Case.{Case}
-use Rattle.resolved_insns.specs.declared.resolved.Instruction.{Instruction}
-use Rattle.resolved_insns.specs.declared.resolved.Instruction.TheVariants.{Passes, PushesNull, PushesInt, PushesText, Loads, Stores, Increments, LoadsElement, StoresElement, Shuffles, Computes, Negates, Narrows, Tests, Compares, ComparesReferences, TestsNull, JumpsTo, Switches, ReturnsValue, ReturnsNothing, GetsStatic, PutsStatic, GetsField, PutsField, Creates, CreatesArray, Measures, Throws, Casts, Checks, Calls}
-use Rattle.resolved_insns.specs.declared.resolved.Resolved.{Resolved}
+use Rattle.jvm_values.specs.declared.resolved.Case.{Case}
+use Rattle.jvm_values.specs.declared.resolved.Instruction.{Instruction}
+use Rattle.jvm_values.specs.declared.resolved.Instruction.TheVariants.{Passes, PushesNull, PushesInt, PushesText, Loads, Stores, Increments, LoadsElement, StoresElement, Shuffles, Computes, Negates, Narrows, Tests, Compares, ComparesReferences, TestsNull, JumpsTo, Switches, ReturnsValue, ReturnsNothing, GetsStatic, PutsStatic, GetsField, PutsField, Creates, CreatesArray, Measures, Throws, Casts, Checks, Calls}
+use Rattle.jvm_values.specs.declared.resolved.Resolved.{Resolved}
 
 abbrev pub case_of : Case → ℤ × ℕ
 case_of case = (case.key, case.target)
