@@ -7,6 +7,7 @@ ghost use Rattle.jo_prog.specs.Values.{object, array};
 ghost use Rattle.jo_prog.specs.Program.{class_at as class_with};
 ghost use Rattle.jo_prog.specs.Machine;
 ghost use Rattle.machine.specs.Heaps as machine;
+ghost use Rattle.machine.specs.Invocation.{class_of};
 ghost use Rattle.machine.specs.Heaps.{first_content, own_contents, first_contents, field_content, with_field, field_of, element_of, field_written, element_written, marked_started, is_marked};
 ghost use Rattle.jvm_values.specs.Values.{value_of, info_of, info_seen};
 ghost use Rattle.jvm_values.specs.Heaps.{content_of, is_field, object_of, changed};
@@ -294,6 +295,19 @@ impl Heap {
                 Info::Array(desc, length) => InfoView::Array(desc, *length),
             },
             None => InfoView::Object(Id::of(0)),
+        }
+    }
+
+    /// The class by which what stands at an address selects: that of an object, and java/lang/Object for an array.
+    pub fn class(&self, address: Address) -> ClassId
+        ensures { result ≡ class_of (Machine.info_of (slice_get self.now address)) }
+    {
+        match self.objects.get(address as usize) {
+            Some(object) => match &object.info {
+                Info::Object(class) => *class,
+                Info::Array(_, _) => Id::of(0),
+            },
+            None => Id::of(0),
         }
     }
 
