@@ -100,14 +100,14 @@ module _ (program : Program) (m pc c : ℕ) (o : ObjKey (List ℕ)) (code : Code
   pub passes_all : row_for program code.rows pc c ≡ None → PassesAll program m pc o
   passes_all none k is = by_search (row_for program code.rows pc c) none (finds program pc c 0 code.rows)
     where
-      by_search : (s : Option (ℕ × Row)) → s ≡ None → Found test code.rows 0 s → ⊥
+      by_search : (s : Option (ℕ × Row)) → s ≡ None → Found test code.rows zero s → ⊥
       by_search _ e (first_at j row there passes below) = absurd (cc)
       by_search _ e (nowhere all) = let it = caught_row k is in not_both (test it.0) it.2 (all k it.0 it.1)
 
   pub none_for : PassesAll program m pc o → row_for program code.rows pc c ≡ None
   none_for passes = by_search (row_for program code.rows pc c) (finds program pc c 0 code.rows)
     where
-      by_search : (s : Option (ℕ × Row)) → Found test code.rows 0 s → s ≡ None
+      by_search : (s : Option (ℕ × Row)) → Found test code.rows zero s → s ≡ None
       by_search _ (first_at j row there is below) = absurd (passes j (catching j row there is))
       by_search _ (nowhere all) = refl
 
@@ -127,7 +127,7 @@ module _ (program : Program) (m pc c : ℕ) (o : ObjKey (List ℕ)) (code : Code
         row_there k ∙ ap (slice_get code.rows) here ∙ there ∙ ap (λ (x : Row). Some x) (sym same),
       )
 
-      by_search : (s : Option (ℕ × Row)) → s ≡ Some (k, row) → Found test code.rows 0 s → CatchesFirst program m pc k o × (row_at program m k ≡ Some row)
+      by_search : (s : Option (ℕ × Row)) → s ≡ Some (k, row) → Found test code.rows zero s → CatchesFirst program m pc k o × (row_at program m k ≡ Some row)
       by_search _ e (first_at j r there passes below) = let pair = private_same (0 + j, r) (k, row) e in first_of j r (sym (ap (λ (p : ℕ × Row). p.0) pair) ∙ plain j) (sym (ap (λ (p : ℕ × Row). p.1) pair)) there passes below
       by_search _ e (nowhere all) = absurd (cc)
 
@@ -147,7 +147,7 @@ module _ (program : Program) (m pc c : ℕ) (o : ObjKey (List ℕ)) (code : Code
           between : j ≤ k → k ≤ j → j ≡ k
           between low high = omega (arith, low, high)
 
-      by_search : (s : Option (ℕ × Row)) → Found test code.rows 0 s → s ≡ Some (k, row)
+      by_search : (s : Option (ℕ × Row)) → Found test code.rows zero s → s ≡ Some (k, row)
       by_search _ (first_at j r at_j passes below) =
           let same = same_place j r at_j passes below in
           let row_is : r ≡ row = private_same r row (sym at_j ∙ ap (slice_get code.rows) same ∙ here) in

@@ -300,7 +300,7 @@ fn one_more_is_the_limit(rt: HostRuntime) -> Result<(), Fail> {
     Ok(())
 }
 
-/// 0 iload_0, 1 invokestatic half, 4 ifgt 0, 7 iconst_0, 8 ireturn, 9 athrow. Row 0 covers 0 to 3, row 1 covers 9; both lead to 9.
+/// 0 iload_0, 1 invokestatic half, 4 ifgt 0, 7 iconst_0, 8 ireturn, 9 athrow. The first exception handler covers 0 to 3, the second 9; both begin at 9.
 const GUARDED: [u8; 10] = [0x1a, 0xb8, 0, 1, 0x9d, 0xff, 0xfc, 0x03, 0xac, 0xbf];
 
 fn guarded_program(alloc: Global) -> Result<Program, Memory> {
@@ -409,7 +409,7 @@ fn each_kind_of_node_has_its_places(rt: HostRuntime) -> Result<(), Fail> {
     Ok(())
 }
 
-/// 0 iconst_1, 1 iconst_0, 2 idiv, 3 ireturn, 4 pop, 5 iconst_2, 6 ireturn. Row 0 ends before the division, rows 1 and 2 cover it.
+/// 0 iconst_1, 1 iconst_0, 2 idiv, 3 ireturn, 4 pop, 5 iconst_2, 6 ireturn. The first exception handler ends before the division, the two behind it cover it.
 #[test]
 fn rows_cover_from_start_to_before_their_end(rt: HostRuntime) -> Result<(), Fail> {
     let alloc = rt.alloc();
