@@ -1,6 +1,6 @@
 -- States of the machine that typing speaks of: what stands in each place is of the kind that some typing path gives that place (JVM
 -- Specification SE 8, 2.3, 2.4, 2.6, 2.10 and 4.10; the form by paths is this project's own).
-use Rattle.std.specs.Prelude.{◌≡◌, ℕ, true, ℤ, List, [], ◌∷◌, length, map, drop, Option, Some, None, slice_get, FitsSigned}
+use Rattle.std.specs.Prelude.{◌≡◌, ℕ, Bool, true, nat_lt, ℤ, pos, List, [], ◌∷◌, length, map, drop, Option, Some, None, slice_get, FitsSigned}
 use Rattle.std.specs.Int.{w32}
 use Rattle.jo_text.specs.declared.descriptors.FieldDesc.{FieldDesc}
 use Rattle.jo_insn.specs.AccessFlags.{has_flag, static_flag}
@@ -8,7 +8,7 @@ use Rattle.jo_prog.specs.declared.program.Program.{Program}
 use Rattle.jo_prog.specs.declared.program.Class.{Class}
 use Rattle.jo_prog.specs.declared.program.Field.{Field}
 use Rattle.jo_prog.specs.declared.program.TypeRef.{TypeRef}
-use Rattle.jo_prog.specs.declared.program.TypeRef.TheVariants.{Class as OfClass}
+use Rattle.jo_prog.specs.declared.program.TypeRef.TheVariants.{Class as OfClass, Array as OfArray}
 use Rattle.jo_prog.specs.Program.{method_at, class_at}
 use Rattle.jo_prog.specs.PreludeClasses.{string_class, thread_number}
 use Rattle.jo_prog.specs.Constants.{string_address}
@@ -26,13 +26,18 @@ use Rattle.machine.specs.Heaps.{first_contents}
 
 -- ---- values and places
 
+-- an array type has a dimension (4.3.2)
+abbrev pub has_dims : TypeRef → Bool
+has_dims (OfClass c) = true
+has_dims (OfArray desc) = nat_lt 0 desc.dims
+
 -- A value of a kind. A reference leads to an object or array of the type, where that is an interface to any.
 pub data HasKind (program : Program) (heap : List HeapObject) : Kind → Value ℕ → Type 0 where
   an_int : (z : ℤ) → FitsSigned w32 z → HasKind program heap Int (int z)
   a_null : HasKind program heap Null null
   no_object : (type : TypeRef) → HasKind program heap (Ref type) null
   an_object : (type : TypeRef) (a : ℕ) (o : HeapObject) → slice_get heap a ≡ Some o → takes_type program (type_of o.info) type ≡ true
-      → HasKind program heap (Ref type) (ref a)
+      → has_dims type ≡ true → HasKind program heap (Ref type) (ref a)
 
 -- what stands in a place of a kind; of an unset one nothing is known, and it may hold nothing
 pub data PlaceHasKind (program : Program) (heap : List HeapObject) : Kind → Option (Value ℕ) → Type 0 where
@@ -128,13 +133,14 @@ pub record IsFieldContent (program : Program) (heap : List HeapObject) (content 
   pub is_field : slice_get program.fields content.0 ≡ Some field
   pub fits : IsOnStack program heap (kind_of_desc program (field_desc_in field.desc)) content.1
 
--- An object of a class of the program, with its fields and those of the classes above, or an array with as many elements as it is long.
+-- An object of a class of the program, with its fields and those of the classes above, or an array with as many elements as it is long;
+-- that is an int.
 pub data IsTypedObject (program : Program) (heap : List HeapObject) : HeapObject → Type 0 where
   of_class : (o : HeapObject) (c : ℕ) (class : Class) → o.info ≡ object c → class_at program c ≡ Some class
       → map (λ content. content.0) o.fields ≡ map (λ content. content.0) (first_contents program c)
       → ((k : ℕ) (content : ℕ × Value ℕ) → slice_get o.fields k ≡ Some content → IsFieldContent program heap content)
       → IsTypedObject program heap o
-  of_array : (o : HeapObject) (type : FieldDesc) (count : ℕ) → o.info ≡ array type count → length o.elements ≡ count
+  of_array : (o : HeapObject) (type : FieldDesc) (count : ℕ) → o.info ≡ array type count → length o.elements ≡ count → FitsSigned w32 (pos count)
       → ((k : ℕ) (v : Value ℕ) → slice_get o.elements k ≡ Some v → IsOnStack program heap (kind_of_type program type) v)
       → IsTypedObject program heap o
 
