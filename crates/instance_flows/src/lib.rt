@@ -1,0 +1,6 @@
+//! The part of a flow graph that a node reaches by the edges that are kept.
+#![tactic(auto)]
+
+pub mod parts;
+#[cfg(test)]
+mod tests;
