@@ -1,0 +1,5 @@
+pub mod AddsLemmas
+pub mod SeenLemmas
+pub mod CallLemmas
+pub mod KeptLemmas
+pub mod RuleLemmas

@@ -1,0 +1,4 @@
+pub mod Seen
+pub mod Adds
+pub mod Additions
+pub mod CallRules
