@@ -1,9 +1,12 @@
 //! Types programs, and prints the heights of their methods, or the faults. Each word names a list of class files and assembly texts.
 #![tactic(auto)]
 
-ghost use Rattle.std.specs.Prelude.{◌<◌, ◌^◌, length, IfOk};
+ghost use Rattle.std.specs.Prelude.{◌≡◌, ◌<◌, ◌^◌, length, string_bytes, IfOk, IfSome, IfNone};
 ghost use Rattle.hierarchy.specs.Hierarchies.{IsHierarchyOf};
-ghost use Rattle.jo_prog.specs.Program.{HasNumbers};
+ghost use Rattle.jo_prog.specs.Program.{HasNumbers, method_at as method_with};
+ghost use Rattle.jo_prog.specs.Spelling.{spelled_method};
+ghost use Rattle.jvm_typing.specs.Typings.{IsFirstMethodFault};
+ghost use Rattle.typings.specs.Words.{word_of, is_of_a_file, AreTyped};
 
 use class_pool::ClassFile;
 use hierarchy::{Hierarchy, has_its_parents};
@@ -22,7 +25,9 @@ use std::{env, io, str};
 /// The bytes that a class file begins with (JVM Specification SE 8, 4.1).
 const MAGIC: [u8; 4] = [0xCA, 0xFE, 0xBA, 0xBE];
 
-fn code_of(code: TypeCode) -> &'static str {
+fn code_of(code: TypeCode) -> &'static str
+    ensures { result.now ≡ word_of code }
+{
     match code {
         TypeCode::Underflow => "Y1",
         TypeCode::Overflow => "Y2",
@@ -38,7 +43,9 @@ fn invalid() -> io::Error {
     io::Error::from(io::ErrorKind::InvalidData)
 }
 
-fn spelled(rt: &HostRuntime, program: &Program, method: MethodId) -> io::Result<String> {
+fn spelled(rt: &HostRuntime, program: &Program, method: MethodId) -> io::Result<String>
+    ensures { IfOk result (λ name. string_bytes name ≡ spelled_method program.now method) }
+{
     let mut bytes = Vec::new(rt.alloc());
     push_method(&mut bytes, program, method)?;
     match str::from_utf8(bytes.as_slice()) {
@@ -61,7 +68,9 @@ fn show_fault(rt: &HostRuntime, name: &str, fault: TypeFault) -> io::Result<()> 
     println!(rt; "joana: input {} {name} {}", code_of(fault.code), fault.pc)
 }
 
-fn is_of_a_file(program: &Program, method: MethodId) -> bool {
+fn is_of_a_file(program: &Program, method: MethodId) -> bool
+    ensures { result ≡ is_of_a_file program.now (method_with program.now method) }
+{
     match method_at(program, method) {
         Some(method) => is_of_files(program, method),
         None => false,
@@ -101,8 +110,13 @@ fn show_typed(rt: &HostRuntime) -> io::Result<()> {
 fn first_fault(rt: &HostRuntime, program: &Program, hierarchy: &Hierarchy) -> Option<MethodFault>
     requires kept { IsHierarchyOf program.now hierarchy.now }
     requires numbers { HasNumbers program.now }
+    ensures fault { IfSome result (IsFirstMethodFault program.now) }
+    ensures typed { IfNone result (AreTyped program.now) }
 {
-    type_program(rt.alloc(), program, hierarchy).err()
+    match &type_program(rt.alloc(), program, hierarchy) {
+        Ok(_) => None,
+        Err(fault) => Some(*fault),
+    }
 }
 
 /// Prints whether all methods are typed, or the first that isn't, and then what each method of the files comes to.
