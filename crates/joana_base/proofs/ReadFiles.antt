@@ -1,5 +1,5 @@
 -- From what single reads say to what reading the files of a program says.
-use Rattle.std.proofs.Common.{◌≡◌, ◌∙◌, ℕ, suc, ◌+◌, ◌-◌, ◌<◌, ◌≤◌, ◌^◌, min, Bool, true, false, ◌||◌, List, [], ◌∷◌, ◌++◌, length, drop, get_or, Option, Some, IfSome, Err, slice_get, refl, sym, ap, subst, arith}
+use Rattle.std.proofs.Common.{◌≡◌, ◌∙◌, ℕ, zero, suc, ◌+◌, ◌-◌, ◌<◌, ◌≤◌, ◌^◌, min, Bool, true, false, ◌||◌, List, [], ◌∷◌, ◌++◌, length, drop, get_or, Option, Some, None, IfSome, Result, Err, slice_get, refl, sym, ap, subst, arith}
 use Rattle.std.specs.Prelude.{Vec}
 use Rattle.std.specs.Str.{IsUtf8}
 use Rattle.std.specs.declared.alloc.Global.{Global}
@@ -7,9 +7,10 @@ use Rattle.std.proofs.lemmas.Bool.{ltb-false, lt-ltb}
 use Rattle.std.proofs.lemmas.List.{append-nil, drop_more, drop_all}
 use Rattle.jo_io.specs.Counts.{Rose}
 use Rattle.jo_text.specs.Texts.{StopsAt}
-use Rattle.joana_base.specs.Files.{Held, ProgramNames, ProgramFiles, paths_of, IsToldAs, AreToldAs, AreProgramFiles, is_large, are_many, AreReadable, RefusesList, no_text, many_paths, RefusesFiles, too_large, of_list}
-use Rattle.joana_base.specs.Reading.{all_bytes, change_of, IsPathRead, IsProgramRead, AfterRead, AfterPathReads, AfterListReads, AfterProgramReads, ReadsList, ReadsProgram}
+use Rattle.joana_base.specs.Files.{Held, ProgramNames, ProgramFiles, listed, paths_of, IsToldAs, AreToldAs, IsThirdToldAs, AreProgramFiles, is_large, are_many, AreReadable, RefusesList, no_text, many_paths, RefusesFiles, too_large, of_list}
+use Rattle.joana_base.specs.Reading.{all_bytes, change_of, IsReadBehind, IsProgramRead, AfterReads, AfterRead, IsReadFrom, AfterReadsFrom, AfterListReads, AfterProgramReads, AreToldBehind, third_bytes, ReadsList, ReadsProgram}
 use Rattle.joana_base.specs.declared.reading.ProgramFiles as memory
+use Rattle.joana_base.specs.declared.reading.FilesBehind.{FilesBehind}
 use Rattle.joana_base.specs.declared.answers.Stop.{Stop}
 use Rattle.joana_base.specs.declared.answers.Stop.TheVariants.{Faulty, Unread, Memory}
 use Rattle.joana_base.specs.declared.status.InputFault.TheVariants.{ClassList}
@@ -66,8 +67,33 @@ or_true : (b : Bool) → (b || true) ≡ true
 or_true true = refl
 or_true false = refl
 
-abbrev of_parts : List ℕ → List ℕ → List (List ℕ) → ProgramFiles
-of_parts policy list classes = record { policy = policy; list = list; classes = classes }
+pub third_holds_as : (held later : Held) → ((name : List ℕ) → later name ≡ held name) → (third bytes : Option (List ℕ)) → IsThirdToldAs later third bytes → IsThirdToldAs held third bytes
+third_holds_as held later same None None h = tt
+third_holds_as held later same (Some name) (Some bytes) h = holds_as held later same name bytes h
+third_holds_as held later same None (Some bytes) h = absurd h
+third_holds_as held later same (Some name) None h = absurd h
+
+abbrev of_parts : List ℕ → List ℕ → Option (List ℕ) → List (List ℕ) → ProgramFiles
+of_parts policy list third classes = record { policy = policy; list = list; third = third; classes = classes }
+
+-- ---- reads behind reads that haven't failed
+
+pub reads_on : (T U : Type 0) (A B : ℕ → List ℕ → Type 0) → ((number : ℕ) (name : List ℕ) → A number name → B number name)
+    → (held now : Held) (stop : Stop) (before mid after : ℕ) (failed : List ℕ) → mid ≡ before
+    → AfterReads {T = T} A (Err stop) (change_of now mid after failed) → AfterReads {T = U} B (Err stop) (change_of held before after failed)
+reads_on T U A B names held now (Faulty refusal) before mid after failed same a = a ∙ same
+reads_on T U A B names held now (Unread unread) before mid after failed same a = (later_rose before mid after same a.0, names unread.number failed a.1, a.2)
+reads_on T U A B names held now Memory before mid after failed same a = omega (arith, same, a)
+
+-- the third file is read before the paths
+pub third_first : (third : Option (List ℕ)) (paths : List (List ℕ)) (number : ℕ) (name : List ℕ) → IsReadFrom 2 (listed third) number name → IsReadFrom 2 (listed third ++ paths) number name
+third_first None paths number name (k, is, at) = absurd (cc)
+third_first (Some file) paths number name (zero, is, at) = (0, is, at)
+third_first (Some file) paths number name (suc k, is, at) = absurd (cc)
+
+pub paths_behind : (third : Option (List ℕ)) (paths : List (List ℕ)) (number : ℕ) (name : List ℕ) → IsReadFrom (2 + length (listed third)) paths number name → IsReadFrom 2 (listed third ++ paths) number name
+paths_behind None paths number name read = read
+paths_behind (Some file) paths number name (k, is, at) = (suc k, omega (arith, is), at)
 
 -- ---- all files of a program
 
@@ -75,46 +101,47 @@ of_parts policy list classes = record { policy = policy; list = list; classes = 
 module _ (held : Held) (names : ProgramNames) (policy list : List ℕ) (has_policy : IsToldAs held names.policy policy) (has_list : IsToldAs held names.classes list) where
   pub large_policy : true ≡ is_large policy → (files : ProgramFiles) × AreProgramFiles held names files × RefusesFiles files (Limit M2)
   large_policy large = (
-    of_parts policy list [],
-    record { policy = has_policy; list = has_list; classes = λ small _ _ _. absurd (cc) },
+    of_parts policy list None [],
+    record { policy = has_policy; list = has_list; behind = λ small _ _ _. absurd (cc) },
     too_large (ap (λ b. b || is_large list) (sym large)),
   )
 
   pub large_list : true ≡ is_large list → (files : ProgramFiles) × AreProgramFiles held names files × RefusesFiles files (Limit M2)
   large_list large = (
-    of_parts policy list [],
-    record { policy = has_policy; list = has_list; classes = λ _ small _ _. absurd (cc) },
+    of_parts policy list None [],
+    record { policy = has_policy; list = has_list; behind = λ _ small _ _. absurd (cc) },
     too_large (ap (λ b. is_large policy || b) (sym large) ∙ or_true (is_large policy)),
   )
 
   -- neither is large; the class files are read after these
   module _ (later : Held) (same : (name : List ℕ) → later name ≡ held name) (small_policy : false ≡ is_large policy) (small_list : false ≡ is_large list) where
-    pub program_read : (classes : List (List ℕ)) → IsUtf8 list × (are_many (paths_of list) ≡ false) × AreToldAs later (paths_of list) classes
-        → AreReadable (of_parts policy list classes) × AreProgramFiles held names (of_parts policy list classes)
-    program_read classes read =
-        let each = each_holds_as held later same (paths_of list) classes read.2 in (
+    pub program_read : (third : Option (List ℕ)) (classes : List (List ℕ)) → IsUtf8 list × (are_many (paths_of list) ≡ false) × (IsThirdToldAs later names.third third × AreToldAs later (paths_of list) classes)
+        → AreReadable (of_parts policy list third classes) × AreProgramFiles held names (of_parts policy list third classes)
+    program_read third classes read =
+        let each = each_holds_as held later same (paths_of list) classes read.2.1 in
+        let third_is = third_holds_as held later same names.third third read.2.0 in (
           record { policy = sym small_policy; list = sym small_list; text = read.0; few = read.1; each = each_has_one held (paths_of list) classes each },
-          record { policy = has_policy; list = has_list; classes = λ _ _ _ _. each },
+          record { policy = has_policy; list = has_list; behind = λ _ _ _ _. (third_is, each) },
         )
 
-    pub list_stopped : (stop : Stop) → ReadsList later list (Err stop) → ReadsProgram held names (Err stop)
+    pub list_stopped : (stop : Stop) → ReadsList later names.third list (Err stop) → ReadsProgram held names (Err stop)
     list_stopped (Faulty refusal) read = (
-      of_parts policy list [],
-      record { policy = has_policy; list = has_list; classes = λ _ _ text few. absurd (unread_list list refusal read text few) },
+      of_parts policy list None [],
+      record { policy = has_policy; list = has_list; behind = λ _ _ text few. absurd (unread_list list refusal read text few) },
       of_list refusal (sym small_policy) (sym small_list) read,
     )
     list_stopped (Unread unread) read = tt
     list_stopped Memory read = tt
 
     pub stopped_after : (stop : Stop) (before mid after : ℕ) (failed : List ℕ) → mid ≡ before
-        → AfterListReads {T = Vec (Vec ℕ Global) Global} list (Err stop) (change_of later mid after failed)
+        → AfterListReads {T = FilesBehind} names.third list (Err stop) (change_of later mid after failed)
         → AfterProgramReads {T = memory.ProgramFiles} names (Err stop) (change_of held before after failed)
     stopped_after (Faulty refusal) before mid after failed quiet a = a ∙ quiet
     stopped_after (Unread unread) before mid after failed quiet a =
         let path = a.1.3 in
         let P : ℕ → Type 0 = λ n. IsProgramRead held names n failed in
         let second : unread.number ≡ suc (suc path.0) = omega (arith, path.1) in
-        let read : IsPathRead held names path.0 failed = record {
+        let read : IsReadBehind held names path.0 failed = record {
           policy = policy;
           policy_told = has_policy;
           list = list;
@@ -159,10 +186,8 @@ paths_read held now old new paths front i past on =
     let Files : List (List ℕ) → Type 0 = AreToldAs held paths in
     subst Files (append-nil (all_bytes front)) (subst At (drop_all i paths past) on.read [] tt)
 
-pub path_stops : (T U : Type 0) (held now : Held) (paths : List (List ℕ)) (k : ℕ) (path : List ℕ) (stop : Stop) (before mid after : ℕ) (failed : List ℕ)
-    → slice_get paths k ≡ Some path → mid ≡ before → AfterRead {T = T} (k + 2) path (Err stop) (change_of now mid after failed)
-    → AfterPathReads {T = U} paths (Err stop) (change_of held before after failed)
-path_stops T U held now paths k path (Faulty refusal) before mid after failed at same a = a ∙ same
-path_stops T U held now paths k path (Unread unread) before mid after failed at same a =
-    (later_rose before mid after same a.0, (k, a.1.0, at ∙ ap (λ (name : List ℕ). Some name) (sym a.1.1)), a.2)
-path_stops T U held now paths k path Memory before mid after failed at same a = omega (arith, same, a)
+pub path_stops : (T U : Type 0) (held now : Held) (first : ℕ) (paths : List (List ℕ)) (k : ℕ) (path : List ℕ) (stop : Stop) (before mid after : ℕ) (failed : List ℕ)
+    → slice_get paths k ≡ Some path → mid ≡ before → AfterRead {T = T} (k + first) path (Err stop) (change_of now mid after failed)
+    → AfterReadsFrom {T = U} first paths (Err stop) (change_of held before after failed)
+path_stops T U held now first paths k path stop before mid after failed at same a =
+    reads_on T U (λ number name. (number ≡ k + first) × (name ≡ path)) (IsReadFrom first paths) (λ number name is. (k, is.0, at ∙ ap (λ (name : List ℕ). Some name) (sym is.1))) held now stop before mid after failed same a

@@ -1,5 +1,5 @@
 -- The files of a command, and the order in which they are refused (this project's own).
-use Rattle.std.specs.Prelude.{◌≡◌, ℕ, suc, Bool, true, false, ◌||◌, nat_lt, if◌then◌else◌, List, [], ◌∷◌, length, Option, IfSome, Result, Ok, Err, ⊤}
+use Rattle.std.specs.Prelude.{◌≡◌, ℕ, suc, Bool, true, false, ◌||◌, nat_lt, if◌then◌else◌, List, [], ◌∷◌, ◌++◌, length, Option, Some, None, option_map, IfSome, Result, Ok, Err, ⊤}
 use Rattle.std.specs.List.{list_any}
 use Rattle.std.specs.Str.{IsUtf8}
 use Rattle.jo_text.specs.Lines.{lines_of}
@@ -19,19 +19,26 @@ use Rattle.joana_base.specs.declared.status.Refusal.TheVariants.{Input, Limit}
 abbrev pub Held : Type 0
 Held = List ℕ → Option (List ℕ)
 
--- the names of the files that make a program and say what it may show
+-- the names of the files that make a program and say what it may show, and of the third file of a command that has one
 pub record ProgramNames : Type 0 where
   pub classes : List ℕ
   pub policy : List ℕ
+  pub third : Option (List ℕ)
 
--- these files: the policy, the class list, and the class files in the order of the list
+-- these files: the policy, the class list, the third file, and the class files in the order of the list
 pub record ProgramFiles : Type 0 where
   pub policy : List ℕ
   pub list : List ℕ
+  pub third : Option (List ℕ)
   pub classes : List (List ℕ)
 
 abbrev pub names_of : lent.ProgramNames → ProgramNames
-names_of names = record { classes = names.classes.now; policy = names.policy.now }
+names_of names = record { classes = names.classes.now; policy = names.policy.now; third = option_map (λ name. name.now) names.third }
+
+-- the third file, or its name, as a list
+abbrev pub listed : {A : Type 0} → Option A → List A
+listed None = []
+listed (Some x) = x ∷ []
 
 -- the paths of a class list: a line each
 abbrev pub paths_of : List ℕ → List (List ℕ)
@@ -55,13 +62,20 @@ AreToldAs held [] [] = ⊤
 AreToldAs held (name ∷ names) (bytes ∷ more) = IsToldAs held name bytes × AreToldAs held names more
 AreToldAs held _ _ = ⊥
 
--- The files with these names, as far as they are told. Class files count where neither the policy nor the list is too large,
--- and the list is UTF-8 with no more paths than it may have, else nothing is said of them.
+-- the same of the third file, which is there where it has a name
+abbrev pub IsThirdToldAs : Held → Option (List ℕ) → Option (List ℕ) → Type 0
+IsThirdToldAs held None None = ⊤
+IsThirdToldAs held (Some name) (Some bytes) = IsToldAs held name bytes
+IsThirdToldAs held _ _ = ⊥
+
+-- The files with these names, as far as they are told. The third file and class files count where neither the policy nor the list
+-- is too large, and the list is UTF-8 with no more paths than it may have, else nothing is said of them.
 pub record AreProgramFiles (held : Held) (names : ProgramNames) (files : ProgramFiles) : Type 0 where
   pub policy : IsToldAs held names.policy files.policy
   pub list : IsToldAs held names.classes files.list
-  pub classes : is_large files.policy ≡ false → is_large files.list ≡ false → IsUtf8 files.list
-      → are_many (paths_of files.list) ≡ false → AreToldAs held (paths_of files.list) files.classes
+  pub behind : is_large files.policy ≡ false → is_large files.list ≡ false → IsUtf8 files.list
+      → are_many (paths_of files.list) ≡ false
+      → IsThirdToldAs held names.third files.third × AreToldAs held (paths_of files.list) files.classes
 
 -- the class of the file with this number, or its fault
 abbrev pub class_numbered : ℕ → Result ClassFile ClassFault → Result ClassFile Refusal
@@ -93,9 +107,10 @@ classes_from number [] = Ok []
 classes_from number (file ∷ more) =
     before (class_numbered number (class_of file)) (classes_from (suc number) more)
 
--- the classes of a list's files; or why there are none: one is too large, or else the first that has a fault
-abbrev pub classes_of : List (List ℕ) → Result (List ClassFile) Refusal
-classes_of files = if list_any is_large files then Err (Limit M2) else classes_from 0 files
+-- The classes of a list's files; or why there are none: one of them or the third file is too large, or else the first that has a
+-- fault.
+abbrev pub classes_of : Option (List ℕ) → List (List ℕ) → Result (List ClassFile) Refusal
+classes_of third files = if list_any is_large (listed third ++ files) then Err (Limit M2) else classes_from 0 files
 
 -- ---- the files of a program, and what refuses them, in this order
 
@@ -117,10 +132,10 @@ pub data RefusesFiles (files : ProgramFiles) : Refusal → Type 0 where
   too_large : (is_large files.policy || is_large files.list) ≡ true → RefusesFiles files (Limit M2)
   of_list : (refusal : Refusal) → is_large files.policy ≡ false → is_large files.list ≡ false
       → RefusesList files.list refusal → RefusesFiles files refusal
-  of_classes : (refusal : Refusal) → AreReadable files → classes_of files.classes ≡ Err refusal
+  of_classes : (refusal : Refusal) → AreReadable files → classes_of files.third files.classes ≡ Err refusal
       → RefusesFiles files refusal
 
 -- nothing refuses the files, and these are their classes
 pub record HaveClasses (files : ProgramFiles) (classes : List ClassFile) : Type 0 where
   pub readable : AreReadable files
-  pub classes_are : classes_of files.classes ≡ Ok classes
+  pub classes_are : classes_of files.third files.classes ≡ Ok classes

@@ -10,7 +10,7 @@ use Rattle.class_pool.specs.declared.faults.ClassFault.{ClassFault}
 use Rattle.class_asm.specs.declared.assembly.AsmFault.{AsmFault}
 use Rattle.class_asm.specs.declared.assembly.AsmFault.TheVariants as texts
 use Rattle.joana_base.specs.declared.status.InputFault.{InputFault}
-use Rattle.joana_base.specs.declared.status.InputFault.TheVariants.{NotBuilt, ClassList, Class, Link, Typing, Policy, Asm}
+use Rattle.joana_base.specs.declared.status.InputFault.TheVariants.{NotBuilt, ClassList, Class, Link, Typing, Policy, RunFile, Asm}
 use Rattle.joana_base.specs.declared.status.LinkKind.{LinkKind}
 use Rattle.joana_base.specs.declared.status.LinkKind.TheVariants.{TwiceDefined, MissingClass, CyclicSuper, MissingMember, NotImplemented, InterfaceBody, StaticInit}
 use Rattle.joana_base.specs.declared.status.TypingFault.{TypingFault}
@@ -18,6 +18,8 @@ use Rattle.joana_base.specs.declared.status.TypingKind.{TypingKind}
 use Rattle.joana_base.specs.declared.status.TypingKind.TheVariants as typings
 use Rattle.joana_base.specs.declared.status.PolicyKind.{PolicyKind}
 use Rattle.joana_base.specs.declared.status.PolicyKind.TheVariants as policies
+use Rattle.joana_base.specs.declared.status.RunFileKind.{RunFileKind}
+use Rattle.joana_base.specs.declared.status.RunFileKind.TheVariants as runs
 use Rattle.jo_ids.specs.declared.LimitKind.{LimitKind}
 use Rattle.jo_ids.specs.declared.LimitKind.TheVariants.{M1, M2, M3, M4, M5, M6, M7}
 use Rattle.joana_base.specs.declared.status.Refusal.{Refusal}
@@ -110,6 +112,12 @@ policy_word policies.ReleaseUpward = codes "P9"
 policy_word policies.ReleaseWithThreads = codes "P10"
 policy_word policies.Entry = codes "P11"
 
+abbrev pub run_file_word : RunFileKind → List ℕ
+run_file_word runs.NotToml = codes "U1"
+run_file_word runs.Key = codes "U2"
+run_file_word runs.Source = codes "U3"
+run_file_word runs.Range = codes "U4"
+
 abbrev pub fault_words : InputFault → List ℕ
 fault_words NotBuilt = codes "NotBuilt"
 fault_words (ClassList place) = codes "B1 " ++ decimal place
@@ -117,6 +125,7 @@ fault_words (Class file fault) = class_words file fault
 fault_words (Link kind name) = link_words kind name
 fault_words (Typing fault) = typing_words fault
 fault_words (Policy kind carried) = policy_word kind ++ carried
+fault_words (RunFile kind) = run_file_word kind
 fault_words (Asm fault) = asm_words fault
 
 abbrev pub limit_word : LimitKind → List ℕ

@@ -1,5 +1,5 @@
 -- What reading the files of a command answers and leaves.
-use Rattle.std.specs.Prelude.{◌≡◌, ℕ, zero, suc, ◌+◌, ◌^◌, ◌<◌, ◌≤◌, false, List, [], ◌∷◌, length, map, Some, Result, Ok, Err, slice_get, Vec, string_bytes, ⊤}
+use Rattle.std.specs.Prelude.{◌≡◌, ℕ, zero, suc, ◌+◌, ◌^◌, ◌<◌, ◌≤◌, false, List, [], ◌∷◌, ◌++◌, length, map, Option, Some, None, option_map, Result, Ok, Err, slice_get, Vec, string_bytes, ⊤}
 use Rattle.std.specs.Str.{IsUtf8}
 use Rattle.std.specs.declared.alloc.Global.{Global}
 use Rattle.jo_io.specs.Counts.{Rose}
@@ -7,9 +7,10 @@ use Rattle.jo_io.specs.declared.files.FileFault.{FileFault}
 use Rattle.jo_io.specs.declared.files.FileFault.TheVariants as faults
 use Rattle.class_pool.specs.declared.classes.ClassFile.{ClassFile}
 use Rattle.class_pool.specs.ClassGrammar.{IsClass}
-use Rattle.joana_base.specs.Files.{Held, ProgramNames, ProgramFiles, paths_of, is_large, IsToldAs, AreToldAs, AreProgramFiles, are_many, RefusesList, RefusesFiles, AreReadable}
+use Rattle.joana_base.specs.Files.{Held, ProgramNames, ProgramFiles, listed, paths_of, is_large, IsToldAs, AreToldAs, IsThirdToldAs, AreProgramFiles, are_many, RefusesList, RefusesFiles, AreReadable}
 use Rattle.joana_base.specs.declared.status.Refusal.{Refusal}
 use Rattle.joana_base.specs.declared.reading.ProgramFiles as memory
+use Rattle.joana_base.specs.declared.reading.FilesBehind.{FilesBehind}
 use Rattle.joana_base.specs.declared.answers.Stop.{Stop}
 use Rattle.joana_base.specs.declared.answers.Stop.TheVariants.{Faulty, Unread, Memory}
 
@@ -17,9 +18,12 @@ use Rattle.joana_base.specs.declared.answers.Stop.TheVariants.{Faulty, Unread, M
 abbrev pub all_bytes : List (Vec ℕ Global) → List (List ℕ)
 all_bytes files = map (λ (file : Vec ℕ Global). file.items) files
 
+abbrev pub third_bytes : Option (Vec ℕ Global) → Option (List ℕ)
+third_bytes third = option_map (λ (file : Vec ℕ Global). file.items) third
+
 abbrev pub in_bytes : memory.ProgramFiles → ProgramFiles
 in_bytes files =
-    record { policy = files.policy.items; list = files.list.items; classes = all_bytes files.classes.items }
+    record { policy = files.policy.items; list = files.list.items; third = third_bytes files.third; classes = all_bytes files.classes.items }
 
 -- ---- the files' count
 
@@ -59,23 +63,24 @@ AfterReads IsName (Err Memory) files = files.faults_before ≤ files.faults_afte
 abbrev pub AfterRead : {T : Type 0} → ℕ → List ℕ → Result T Stop → FilesChange → Type 0
 AfterRead number path result files = AfterReads (λ n name. (n ≡ number) × (name ≡ path)) result files
 
--- the read of a path: they have numbers from 2 on
-abbrev pub IsReadOf : List (List ℕ) → ℕ → List ℕ → Type 0
-IsReadOf paths number name = (k : ℕ) × (number ≡ k + 2) × (slice_get paths k ≡ Some name)
+-- the read of one of these names, which have numbers from the first on
+abbrev pub IsReadFrom : ℕ → List (List ℕ) → ℕ → List ℕ → Type 0
+IsReadFrom first names number name = (k : ℕ) × (number ≡ k + first) × (slice_get names k ≡ Some name)
 
-abbrev pub AfterPathReads : {T : Type 0} → List (List ℕ) → Result T Stop → FilesChange → Type 0
-AfterPathReads paths result files = AfterReads (IsReadOf paths) result files
+-- reads of these names, which have numbers from the first on
+abbrev pub AfterReadsFrom : {T : Type 0} → ℕ → List (List ℕ) → Result T Stop → FilesChange → Type 0
+AfterReadsFrom first names result files = AfterReads (IsReadFrom first names) result files
 
--- the reads of the paths of a list, which is text, and neither too large nor has too many
-abbrev pub AfterListReads : {T : Type 0} → List ℕ → Result T Stop → FilesChange → Type 0
-AfterListReads list result files =
+-- the reads of the third file and of the paths of a list, which is text, and neither too large nor has too many
+abbrev pub AfterListReads : {T : Type 0} → Option (List ℕ) → List ℕ → Result T Stop → FilesChange → Type 0
+AfterListReads third list result files =
     let IsName : ℕ → List ℕ → Type 0 = λ number name.
-    (is_large list ≡ false) × IsUtf8 list × (are_many (paths_of list) ≡ false) × IsReadOf (paths_of list) number name in
+    (is_large list ≡ false) × IsUtf8 list × (are_many (paths_of list) ≡ false) × IsReadFrom 2 (listed third ++ paths_of list) number name in
     AfterReads IsName result files
 
--- The read of the path with this number in the class list: neither the policy nor the list is too large, and the list is
--- UTF-8 with no more paths than it may have.
-pub record IsPathRead (held : Held) (names : ProgramNames) (k : ℕ) (name : List ℕ) : Type 0 where
+-- The read with this number behind the list, of the third file or of a path of the list: neither the policy nor the list is too
+-- large, and the list is UTF-8 with no more paths than it may have.
+pub record IsReadBehind (held : Held) (names : ProgramNames) (k : ℕ) (name : List ℕ) : Type 0 where
   pub policy : List ℕ
   pub policy_told : IsToldAs held names.policy policy
   pub list : List ℕ
@@ -84,13 +89,13 @@ pub record IsPathRead (held : Held) (names : ProgramNames) (k : ℕ) (name : Lis
   pub small_list : is_large list ≡ false
   pub text : IsUtf8 list
   pub few : are_many (paths_of list) ≡ false
-  pub path : slice_get (paths_of list) k ≡ Some name
+  pub path : slice_get (listed names.third ++ paths_of list) k ≡ Some name
 
--- the name of the read with that number: the policy, the class list, then the paths of the list
+-- the name of the read with that number: the policy, the class list, the third file where there is one, then the paths of the list
 abbrev pub IsProgramRead : Held → ProgramNames → ℕ → List ℕ → Type 0
 IsProgramRead held names zero name = name ≡ names.policy
 IsProgramRead held names (suc zero) name = name ≡ names.classes
-IsProgramRead held names (suc (suc k)) name = IsPathRead held names k name
+IsProgramRead held names (suc (suc k)) name = IsReadBehind held names k name
 
 abbrev pub AfterProgramReads : {T : Type 0} → ProgramNames → Result T Stop → FilesChange → Type 0
 AfterProgramReads names result files = AfterReads (IsProgramRead files.held names) result files
@@ -108,12 +113,26 @@ ReadsPaths held paths (Ok classes) = AreToldAs held paths (all_bytes classes.ite
 ReadsPaths held paths (Err (Faulty refusal)) = ⊥
 ReadsPaths held paths (Err stop) = ⊤
 
--- the class files of a list, or what refuses it
-abbrev pub ReadsList : Held → List ℕ → Result (Vec (Vec ℕ Global) Global) Stop → Type 0
-ReadsList held list (Ok classes) =
-    IsUtf8 list × (are_many (paths_of list) ≡ false) × AreToldAs held (paths_of list) (all_bytes classes.items)
-ReadsList held list (Err (Faulty refusal)) = RefusesList list refusal
-ReadsList held list (Err stop) = ⊤
+abbrev pub ReadsThird : Held → Option (List ℕ) → Result (Option (Vec ℕ Global)) Stop → Type 0
+ReadsThird held third (Ok file) = IsThirdToldAs held third (third_bytes file)
+ReadsThird held third (Err (Faulty refusal)) = ⊥
+ReadsThird held third (Err stop) = ⊤
+
+abbrev pub AreToldBehind : Held → Option (List ℕ) → List (List ℕ) → FilesBehind → Type 0
+AreToldBehind held third paths files =
+    IsThirdToldAs held third (third_bytes files.third) × AreToldAs held paths (all_bytes files.classes.items)
+
+abbrev pub ReadsBehind : Held → Option (List ℕ) → List (List ℕ) → Result FilesBehind Stop → Type 0
+ReadsBehind held third paths (Ok files) = AreToldBehind held third paths files
+ReadsBehind held third paths (Err (Faulty refusal)) = ⊥
+ReadsBehind held third paths (Err stop) = ⊤
+
+-- the third file and the class files of a list, or what refuses it
+abbrev pub ReadsList : Held → Option (List ℕ) → List ℕ → Result FilesBehind Stop → Type 0
+ReadsList held third list (Ok files) =
+    IsUtf8 list × (are_many (paths_of list) ≡ false) × AreToldBehind held third (paths_of list) files
+ReadsList held third list (Err (Faulty refusal)) = RefusesList list refusal
+ReadsList held third list (Err stop) = ⊤
 
 -- the files of a program were read; or they are refused
 abbrev pub ReadsProgram : Held → ProgramNames → Result memory.ProgramFiles Stop → Type 0

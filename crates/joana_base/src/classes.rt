@@ -4,8 +4,8 @@ ghost use Rattle.std.specs.List.{list_any};
 ghost use Rattle.class_pool.specs.ClassOrder.{class_of};
 ghost use Rattle.class_pool.specs.ClassGrammar.{IsClass};
 ghost use Rattle.class_pool.specs.Fitting.{FitsClass};
-ghost use Rattle.joana_base.specs.Files.{is_large as is_too_large, class_numbered, file_class, text_class, classes_from, classes_of as classes_in};
-ghost use Rattle.joana_base.specs.Reading.{all_bytes, AreClasses, IsUnlessMemory, AreUnlessMemory};
+ghost use Rattle.joana_base.specs.Files.{is_large as is_too_large, listed, class_numbered, file_class, text_class, classes_from, classes_of as classes_in};
+ghost use Rattle.joana_base.specs.Reading.{all_bytes, third_bytes, AreClasses, IsUnlessMemory, AreUnlessMemory};
 
 use crate::answers::Stop;
 use crate::reading::is_large;
@@ -62,13 +62,26 @@ fn classes_in_order(alloc: Global, files: &[Vec<u8>]) -> Result<Vec<ClassFile>, 
     Ok(classes)
 }
 
-/// The classes of the files, in their order.
-pub fn classes_of(alloc: Global, files: &[Vec<u8>]) -> Result<Vec<ClassFile>, Stop>
+fn is_third_large(third: &Option<Vec<u8>>) -> bool
+    ensures { result ≡ list_any is_too_large (listed (third_bytes third.now)) }
+{
+    match third {
+        Some(file) => is_large(file.as_slice()),
+        None => false,
+    }
+}
+
+/// The classes of the files, in their order, where neither one of them nor the third file is too large.
+pub fn classes_of(
+    alloc: Global,
+    third: &Option<Vec<u8>>,
+    files: &[Vec<u8>],
+) -> Result<Vec<ClassFile>, Stop>
     requires { length files.now < 2 ^ 32 }
-    ensures value { AreUnlessMemory result (classes_in (all_bytes files.now)) }
+    ensures value { AreUnlessMemory result (classes_in (third_bytes third.now) (all_bytes files.now)) }
     ensures classes { IfOk result (λ classes. AreClasses (all_bytes files.now) classes.items) }
 {
-    if has_large(files) {
+    if is_third_large(third) || has_large(files) {
         return Err(Stop::Faulty(Refusal::Limit(LimitKind::M2)));
     }
     classes_in_order(alloc, files)

@@ -12,6 +12,6 @@ pub use classes::{class_of_file, class_of_text, classes_of};
 pub use notes::refusal_line;
 pub use reading::{ProgramFiles, ProgramNames, read_file, read_program};
 pub use status::{
-    InputFault, LimitKind, LinkKind, OutsideFault, PolicyKind, Refusal, Status, TypingFault,
-    TypingKind,
+    InputFault, LimitKind, LinkKind, OutsideFault, PolicyKind, Refusal, RunFileKind, Status,
+    TypingFault, TypingKind,
 };

@@ -4,7 +4,7 @@ ghost use Rattle.std.specs.Fmt.{decimal};
 ghost use Rattle.joana_base.specs.Notes;
 
 use crate::status::{
-    InputFault, LimitKind, LinkKind, PolicyKind, Refusal, TypingFault, TypingKind,
+    InputFault, LimitKind, LinkKind, PolicyKind, Refusal, RunFileKind, TypingFault, TypingKind,
 };
 use class_asm::AsmFault;
 use class_pool::{ClassCode, ClassFault, Cut};
@@ -175,6 +175,17 @@ fn push_policy_fault(out: &mut Vec<u8>, kind: PolicyKind, carried: &Name) -> Res
     out.extend_from_slice(carried.as_slice())
 }
 
+fn run_file_word(kind: RunFileKind) -> &'static [u8]
+    ensures { result.now ≡ Notes.run_file_word kind }
+{
+    match kind {
+        RunFileKind::NotToml => b"U1",
+        RunFileKind::Key => b"U2",
+        RunFileKind::Source => b"U3",
+        RunFileKind::Range => b"U4",
+    }
+}
+
 fn push_fault(alloc: Global, out: &mut Vec<u8>, fault: &InputFault) -> Result<(), Memory>
     ensures { OnOk result (out.new.items ≡ out.old.items ++ Notes.fault_words fault.now) }
 {
@@ -185,6 +196,7 @@ fn push_fault(alloc: Global, out: &mut Vec<u8>, fault: &InputFault) -> Result<()
         InputFault::Link(kind, name) => push_link_fault(out, *kind, name),
         InputFault::Typing(fault) => push_typing_fault(alloc, out, fault),
         InputFault::Policy(kind, carried) => push_policy_fault(out, *kind, carried),
+        InputFault::RunFile(kind) => out.extend_from_slice(run_file_word(*kind)),
         InputFault::Asm(fault) => push_asm_fault(alloc, out, *fault),
     }
 }

@@ -90,6 +90,18 @@ pub enum PolicyKind {
     Entry,
 }
 
+/// Kinds of faults of a run file, in the order in which they are told.
+#[derive(Clone, Copy, PartialEq, Eq, Debug)]
+pub enum RunFileKind {
+    NotToml,
+    /// A key is unknown or missing, or its value is of another kind.
+    Key,
+    /// A key of the inputs is no source.
+    Source,
+    /// An integer isn't in its range.
+    Range,
+}
+
 /// What is wrong with the input.
 #[derive(Drop)]
 pub enum InputFault {
@@ -106,6 +118,8 @@ pub enum InputFault {
     /// The first fault of the policy, and what it carries as it is printed: names, levels, methods and pcs, each behind
     /// a space.
     Policy(PolicyKind, Name),
+    /// The first fault of the run file.
+    RunFile(RunFileKind),
     /// The first fault of an assembly text.
     Asm(AsmFault),
 }

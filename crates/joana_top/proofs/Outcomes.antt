@@ -20,8 +20,9 @@ use Rattle.joana_base.specs.declared.answers.Answer.TheVariants.{Yes, No}
 use Rattle.joana_base.specs.declared.answers.Stop.{Stop}
 use Rattle.joana_base.specs.declared.answers.Stop.TheVariants.{Faulty, Unread, Memory}
 use Rattle.joana_top.specs.Answers.{IsOutcome, IsReadOutcome}
-use Rattle.joana_top.specs.Stops.{IsLinked, IsLinkStop, IsTypedProgram, IsTypingStop, GivesLabels, IsLabelStop}
-use Rattle.joana_top.specs.Check.{IsReportOf, IsReportText, IsCheckText, IsCheckAnswer, IsSecureCheck, RefusesProgram, of_typing, of_policy, of_form, in_files, in_classes, in_program, IsDecision, IsShown, IsProgramOutcome, IsFilesOutcome, IsCheckOutcome}
+use Rattle.joana_top.specs.Stops.{StopsBy, IsLinked, IsLinkStop, IsTypedProgram, IsTypingStop, GivesLabels, IsLabelStop, RefusesLabelling, of_typing, of_policy, IsLabellingStop, IsProgramOf, RefusesMaking, in_files, in_classes, IsMakingStop, IsRefusalBy, in_making, in_program}
+use Rattle.joana_top.specs.Check as check
+use Rattle.joana_top.specs.Check.{IsReportOf, IsReportText, IsCheckText, IsCheckAnswer, IsSecureCheck, RefusesProgram, of_form, IsDecision, IsShown, IsVerdictOf, IsProgramOutcome, IsFilesOutcome}
 use Rattle.joana_top.specs.OneFile.{OfFile}
 use Rattle.joana_top.specs.declared.commands.check.Decision.{Decision}
 use Rattle.joana_top.specs.declared.commands.check.Decision.TheVariants as decisions
@@ -37,17 +38,27 @@ quiet_outcome IsText Faults IsName (Err (Faulty refusal)) files same said = same
 quiet_outcome IsText Faults IsName (Err (Unread unread)) files same said = absurd said
 quiet_outcome IsText Faults IsName (Err Memory) files same said = omega (arith, same)
 
-pub check_outcome : (held : Held) (names : ProgramNames) (files : ProgramFiles) (result : Result Answer Stop) → AreProgramFiles held names files → IsFilesOutcome files result → IsCheckOutcome held names result
-check_outcome held names files (Ok answer) are said = (files, are, said)
-check_outcome held names files (Err (Faulty refusal)) are said = (files, are, said)
-check_outcome held names files (Err (Unread unread)) are said = tt
-check_outcome held names files (Err Memory) are said = tt
+-- what is said of files that were read is said of those with these names
+pub named_outcome : (IsAnswer : ProgramFiles → Status → List ℕ → Type 0) (IsRefusal : ProgramFiles → Refusal → Type 0) (held : Held) (names : ProgramNames) (files : ProgramFiles) (result : Result Answer Stop)
+    → AreProgramFiles held names files → IsReadOutcome (IsAnswer files) (IsRefusal files) result
+    → IsOutcome (λ status text. (files : ProgramFiles) × AreProgramFiles held names files × IsAnswer files status text) (λ refusal. (files : ProgramFiles) × AreProgramFiles held names files × IsRefusal files refusal) result
+named_outcome IsAnswer IsRefusal held names files (Ok answer) are said = (files, are, said)
+named_outcome IsAnswer IsRefusal held names files (Err (Faulty refusal)) are said = (files, are, said)
+named_outcome IsAnswer IsRefusal held names files (Err (Unread unread)) are said = tt
+named_outcome IsAnswer IsRefusal held names files (Err Memory) are said = tt
 
--- where a read stops, or nothing is read for what refuses the files
-pub read_stopped : (held : Held) (names : ProgramNames) (stop : Stop) → ReadsProgram held names (Err stop) → IsCheckOutcome held names (Err stop)
-read_stopped held names (Faulty refusal) read = (read.0, read.1, in_files refusal read.2)
-read_stopped held names (Unread unread) read = tt
-read_stopped held names Memory read = tt
+-- where a read stops, or nothing is read for what refuses the files, whatever refuses the program
+pub read_stopped : (IsAnswer : Status → List ℕ → Type 0) (RefusesBy : ProgramFiles → Program → Refusal → Type 0) (held : Held) (names : ProgramNames) (stop : Stop) → ReadsProgram held names (Err stop)
+    → IsOutcome IsAnswer (λ refusal. (files : ProgramFiles) × AreProgramFiles held names files × IsRefusalBy (RefusesBy files) files refusal) (Err stop)
+read_stopped IsAnswer RefusesBy held names (Faulty refusal) read = (read.0, read.1, in_making refusal (in_files refusal read.2))
+read_stopped IsAnswer RefusesBy held names (Unread unread) read = tt
+read_stopped IsAnswer RefusesBy held names Memory read = tt
+
+-- a stop by what refuses a part is one by what refuses the whole
+pub stop_outcome : (IsAnswer : Status → List ℕ → Type 0) (Part Whole : Refusal → Type 0) → ((refusal : Refusal) → Part refusal → Whole refusal) → (stop : Stop) → StopsBy Part stop → IsReadOutcome IsAnswer Whole (Err stop)
+stop_outcome IsAnswer Part Whole of_part (Faulty refusal) stopped = of_part refusal stopped
+stop_outcome IsAnswer Part Whole of_part (Unread unread) stopped = absurd stopped
+stop_outcome IsAnswer Part Whole of_part Memory stopped = tt
 
 -- one file, then an outcome
 pub file_outcome : (IsAnswer : List ℕ → Status → List ℕ → Type 0) (IsRefusal : List ℕ → Refusal → Type 0) (held : Held) (name bytes : List ℕ) (result : Result Answer Stop)
@@ -58,10 +69,10 @@ file_outcome IsAnswer IsRefusal held name bytes (Err (Faulty refusal)) told said
 file_outcome IsAnswer IsRefusal held name bytes (Err (Unread unread)) told said = tt
 file_outcome IsAnswer IsRefusal held name bytes (Err Memory) told said = tt
 
--- ---- the classes of a check
+-- ---- the program of the files
 
--- what refuses the class files refuses the check
-pub refused_classes : (files : ProgramFiles) → AreReadable files → (stop : Stop) → IsUnlessMemory {A = List ClassFile} (Err stop) (classes_of files.classes) → IsFilesOutcome files (Err stop)
+-- what refuses the class files refuses the program that they would make
+pub refused_classes : (files : ProgramFiles) → AreReadable files → (stop : Stop) → IsUnlessMemory {A = List ClassFile} (Err stop) (classes_of files.third files.classes) → IsMakingStop files stop
 refused_classes files ready (Faulty refusal) stopped = in_files refusal (of_classes refusal ready stopped)
 refused_classes files ready (Unread unread) stopped = absurd stopped
 refused_classes files ready Memory stopped = tt
@@ -72,39 +83,48 @@ few_classes files ready =
     let mapped = length-map files.classes.items (λ (file : Vec ℕ Global). file.items) in
     omega (arith, few, mapped)
 
-pub classes_made : (files : ProgramFiles) → AreReadable files → (classes : List ClassFile) → classes_of files.classes ≡ Ok classes → HaveClasses files classes
-classes_made files ready classes comes = record { readable = ready; classes_are = comes }
+module _ (files : ProgramFiles) (ready : AreReadable files) (classes : List ClassFile) (comes : classes_of files.third files.classes ≡ Ok classes) where
+  passes : HaveClasses files classes
+  passes = record { readable = ready; classes_are = comes }
 
-module _ (files : ProgramFiles) (classes : List ClassFile) (passes : HaveClasses files classes) where
   -- so does what refuses them together
-  pub refused_linking : (stop : Stop) → IsLinkStop classes stop → IsFilesOutcome files (Err stop)
+  pub refused_linking : (stop : Stop) → IsLinkStop classes stop → IsMakingStop files stop
   refused_linking (Faulty refusal) stopped = in_classes classes refusal passes stopped
   refused_linking (Unread unread) stopped = absurd stopped
   refused_linking Memory stopped = tt
 
-  -- what is said of the program and the policy is said of the files
-  pub of_program : (read : AreClasses files.classes classes) (program : Program) → IsLinked classes program → (result : Result Answer Stop) → IsProgramOutcome program files.policy result → IsFilesOutcome files result
-  of_program read program linked (Ok (Yes text)) said =
-      (said.0, program, said.2, record { classes = classes; are_classes = read; passes = passes; linked = linked; typed = said.1; form = said.3 }, said.4)
-  of_program read program linked (Ok (No text)) said =
-      (program, said.1, record { classes = classes; are_classes = read; passes = passes; linked = linked; typed = said.0; form = said.2 }, said.3)
-  of_program read program linked (Err (Faulty refusal)) said = in_program classes program refusal passes linked said
-  of_program read program linked (Err (Unread unread)) said = absurd said
-  of_program read program linked (Err Memory) said = tt
+  pub program_made : AreClasses files.classes classes → (program : Program) → IsLinked classes program → IsProgramOf files program
+  program_made read program linked = record { classes = classes; are_classes = read; passes = passes; linked = linked }
+
+-- what is said of the program and the policy is said of the files
+module _ (files : ProgramFiles) (program : Program) (made : IsProgramOf files program) where
+  pub of_program : (result : Result Answer Stop) → IsProgramOutcome program files.policy result → IsFilesOutcome files result
+  of_program (Ok (Yes text)) said = (said.0, program, said.2, record { made = made; typed = said.1; form = said.3 }, said.4)
+  of_program (Ok (No text)) said = (program, said.1, record { made = made; typed = said.0; form = said.2 }, said.3)
+  of_program (Err (Faulty refusal)) said = in_program program refusal made said
+  of_program (Err (Unread unread)) said = absurd said
+  of_program (Err Memory) said = tt
+
+pub making_stopped : (IsAnswer : Status → List ℕ → Type 0) (RefusesProgram : Program → Refusal → Type 0) (files : ProgramFiles) (stop : Stop) → IsMakingStop files stop → IsReadOutcome IsAnswer (IsRefusalBy RefusesProgram files) (Err stop)
+making_stopped IsAnswer RefusesProgram files stop stopped = stop_outcome IsAnswer (RefusesMaking files) (IsRefusalBy RefusesProgram files) (λ refusal by. in_making refusal by) stop stopped
 
 -- ---- a program and a policy
 
-pub refused_typing : (program : Program) (policy : List ℕ) (stop : Stop) → IsTypingStop program stop → IsProgramOutcome program policy (Err stop)
-refused_typing program policy (Faulty refusal) stopped = of_typing refusal stopped
-refused_typing program policy (Unread unread) stopped = absurd stopped
-refused_typing program policy Memory stopped = tt
+pub typing_labelling : (program : Program) (policy : List ℕ) (stop : Stop) → IsTypingStop program stop → IsLabellingStop program policy stop
+typing_labelling program policy (Faulty refusal) stopped = of_typing refusal stopped
+typing_labelling program policy (Unread unread) stopped = absurd stopped
+typing_labelling program policy Memory stopped = tt
+
+pub policy_labelling : (program : Program) (policy : List ℕ) → IsTypedProgram program → (stop : Stop) → IsLabelStop program policy stop → IsLabellingStop program policy stop
+policy_labelling program policy typed (Faulty refusal) stopped = of_policy refusal typed stopped
+policy_labelling program policy typed (Unread unread) stopped = absurd stopped
+policy_labelling program policy typed Memory stopped = tt
+
+module _ (program : Program) (policy : List ℕ) where
+  pub refused_check : (stop : Stop) → IsLabellingStop program policy stop → IsProgramOutcome program policy (Err stop)
+  refused_check stop stopped = stop_outcome (IsVerdictOf program policy) (RefusesLabelling program policy) (RefusesProgram program policy) (λ refusal by. check.of_labelling refusal by) stop stopped
 
 module _ (program : Program) (policy : List ℕ) (typed : IsTypedProgram program) where
-  pub refused_policy : (stop : Stop) → IsLabelStop program policy stop → IsProgramOutcome program policy (Err stop)
-  refused_policy (Faulty refusal) stopped = of_policy refusal typed stopped
-  refused_policy (Unread unread) stopped = absurd stopped
-  refused_policy Memory stopped = tt
-
   module _ (labels : Labels) (gives : GivesLabels program policy labels) (well : IsWellLabelled program labels) where
     -- what is shown of the decision says so of the program
     pub decided : (decision : Decision) (result : Result Answer Stop) → IsDecision program labels decision → IsShown decision result → IsProgramOutcome program policy result

@@ -1,7 +1,6 @@
 -- `check CLASSES POLICY`: the program that the files make, what it shows of it, and what refuses the files. Programs are of the
 -- first form: the entry's code is one straight line.
 use Rattle.std.specs.Prelude.{◌≡◌, ℕ, ◌^◌, ◌<◌, List, Some, Result, Ok, Err, codes, ⊤}
-use Rattle.class_pool.specs.declared.classes.ClassFile.{ClassFile}
 use Rattle.jo_prog.specs.declared.program.Program.{Program}
 use Rattle.jo_prog.specs.declared.program.Code.{Code}
 use Rattle.jo_prog.specs.declared.labels.Labels.{Labels}
@@ -12,8 +11,7 @@ use Rattle.dep_nodes.specs.Chains.{Link}
 use Rattle.chain_report.specs.Report.{chain_text}
 use Rattle.low_run.specs.Verdict.{HasCleanGraph, HasReport}
 use Rattle.low_run.specs.Security.{Secure}
-use Rattle.joana_base.specs.Files.{Held, ProgramNames, ProgramFiles, AreProgramFiles, RefusesFiles, HaveClasses}
-use Rattle.joana_base.specs.Reading.{AreClasses}
+use Rattle.joana_base.specs.Files.{Held, ProgramNames, ProgramFiles, AreProgramFiles}
 use Rattle.joana_base.specs.declared.status.Status.{Status}
 use Rattle.joana_base.specs.declared.status.Status.TheVariants as statuses
 use Rattle.joana_base.specs.declared.status.InputFault.TheVariants as faults
@@ -24,7 +22,7 @@ use Rattle.joana_base.specs.declared.answers.Answer.TheVariants.{Yes, No}
 use Rattle.joana_base.specs.declared.answers.Stop.{Stop}
 use Rattle.joana_base.specs.declared.answers.Stop.TheVariants.{Faulty, Memory}
 use Rattle.joana_top.specs.Answers.{IsOutcome, IsReadOutcome}
-use Rattle.joana_top.specs.Stops.{IsLinked, RefusesClasses, IsTypedProgram, RefusesTyping, GivesLabels, RefusesPolicy}
+use Rattle.joana_top.specs.Stops.{IsTypedProgram, GivesLabels, RefusesLabelling, IsProgramOf, IsRefusalBy}
 use Rattle.joana_top.specs.declared.commands.check.Decision.{Decision}
 use Rattle.joana_top.specs.declared.commands.check.Decision.TheVariants.{NotBuilt, Accepted, Refused}
 
@@ -48,13 +46,9 @@ pub record IsFirstForm (program : Program) (policy : List ℕ) (labels : Labels)
   pub labels_are : GivesLabels program policy labels
   pub plain : IsPlainProgram program labels
 
--- The files of a check are in the first form: nothing refuses them, their classes are linked to this program, which is typed and to
--- which the policy gives these labels.
+-- The files of a check are in the first form: they make this program, which is typed and to which the policy gives these labels.
 pub record IsInput (files : ProgramFiles) (program : Program) (labels : Labels) : Type 0 where
-  pub classes : List ClassFile
-  pub are_classes : AreClasses files.classes classes
-  pub passes : HaveClasses files classes
-  pub linked : IsLinked classes program
+  pub made : IsProgramOf files program
   pub typed : IsTypedProgram program
   pub form : IsFirstForm program files.policy labels
 
@@ -100,18 +94,12 @@ IsSecureCheck held names status = ⊤
 
 -- what refuses a program with a policy: the first fault of typing, else that of the policy, else that it is in no form that is built
 pub data RefusesProgram (program : Program) (policy : List ℕ) : Refusal → Type 0 where
-  of_typing : (refusal : Refusal) → RefusesTyping program refusal → RefusesProgram program policy refusal
-  of_policy : (refusal : Refusal) → IsTypedProgram program → RefusesPolicy program policy refusal → RefusesProgram program policy refusal
+  of_labelling : (refusal : Refusal) → RefusesLabelling program policy refusal → RefusesProgram program policy refusal
   of_form : (labels : Labels) → IsTypedProgram program → GivesLabels program policy labels → (IsFormOf program labels → ⊥)
       → RefusesProgram program policy (Input faults.NotBuilt)
 
--- what refuses the files: in the files themselves, in their classes together, or in the program that they make
-pub data IsRefusalOf (files : ProgramFiles) : Refusal → Type 0 where
-  in_files : (refusal : Refusal) → RefusesFiles files refusal → IsRefusalOf files refusal
-  in_classes : (classes : List ClassFile) (refusal : Refusal) → HaveClasses files classes → RefusesClasses classes refusal
-      → IsRefusalOf files refusal
-  in_program : (classes : List ClassFile) (program : Program) (refusal : Refusal) → HaveClasses files classes
-      → IsLinked classes program → RefusesProgram program files.policy refusal → IsRefusalOf files refusal
+abbrev pub IsRefusalOf : ProgramFiles → Refusal → Type 0
+IsRefusalOf files refusal = IsRefusalBy (λ program refused. RefusesProgram program files.policy refused) files refusal
 
 abbrev pub CheckRefuses : Held → ProgramNames → Refusal → Type 0
 CheckRefuses held names refusal =

@@ -24,6 +24,8 @@ use Rattle.policy_tree.specs.declared.faults.PolicyFault.{PolicyFault}
 use Rattle.policy_tree.specs.declared.faults.PolicyFault.TheVariants as policies
 use Rattle.policy_tree.specs.declared.written.ContextsKey.{ContextsKey}
 use Rattle.jo_policy.specs.Policies.{IsTree, IsPolicy, IsTextFault}
+use Rattle.joana_base.specs.Files.{ProgramFiles, RefusesFiles, HaveClasses}
+use Rattle.joana_base.specs.Reading.{AreClasses}
 use Rattle.joana_base.specs.declared.status.InputFault.TheVariants as faults
 use Rattle.joana_base.specs.declared.status.LinkKind.{LinkKind}
 use Rattle.joana_base.specs.declared.status.LinkKind.TheVariants as link_kinds
@@ -135,6 +137,32 @@ pub data RefusesPolicy (program : Program) (policy : List ℕ) : Refusal → Typ
   of_text : (fault : PolicyFault) (kind : PolicyKind) → IsTextFault program policy fault → policy_kind fault ≡ Some kind
       → RefusesPolicy program policy (Input (faults.Policy kind (carried program fault)))
 
+-- what refuses a program under a policy: the first fault of typing, else that of the policy
+pub data RefusesLabelling (program : Program) (policy : List ℕ) : Refusal → Type 0 where
+  of_typing : (refusal : Refusal) → RefusesTyping program refusal → RefusesLabelling program policy refusal
+  of_policy : (refusal : Refusal) → IsTypedProgram program → RefusesPolicy program policy refusal → RefusesLabelling program policy refusal
+
+-- ---- the files
+
+-- nothing refuses the files, and their classes are linked to this program
+pub record IsProgramOf (files : ProgramFiles) (program : Program) : Type 0 where
+  pub classes : List ClassFile
+  pub are_classes : AreClasses files.classes classes
+  pub passes : HaveClasses files classes
+  pub linked : IsLinked classes program
+
+-- what refuses the files before they make a program: in the files themselves, or in their classes together
+pub data RefusesMaking (files : ProgramFiles) : Refusal → Type 0 where
+  in_files : (refusal : Refusal) → RefusesFiles files refusal → RefusesMaking files refusal
+  in_classes : (classes : List ClassFile) (refusal : Refusal) → HaveClasses files classes → RefusesClasses classes refusal
+      → RefusesMaking files refusal
+
+-- what refuses the files, where this refuses the program that they make
+pub data IsRefusalBy (RefusesProgram : Program → Refusal → Type 0) (files : ProgramFiles) : Refusal → Type 0 where
+  in_making : (refusal : Refusal) → RefusesMaking files refusal → IsRefusalBy RefusesProgram files refusal
+  in_program : (program : Program) (refusal : Refusal) → IsProgramOf files program → RefusesProgram program refusal
+      → IsRefusalBy RefusesProgram files refusal
+
 -- ---- what the parts of the code say
 
 -- the refusal that stops, unless memory is wanting
@@ -170,3 +198,9 @@ IsPolicyStop program fault stop =
 
 abbrev pub IsLabelStop : Program → List ℕ → Stop → Type 0
 IsLabelStop program policy stop = StopsBy (RefusesPolicy program policy) stop
+
+abbrev pub IsLabellingStop : Program → List ℕ → Stop → Type 0
+IsLabellingStop program policy stop = StopsBy (RefusesLabelling program policy) stop
+
+abbrev pub IsMakingStop : ProgramFiles → Stop → Type 0
+IsMakingStop files stop = StopsBy (RefusesMaking files) stop

@@ -30,7 +30,7 @@ kind_in (row ∷ rows) word = if bytes_eq row.0 word then Some row.2 else kind_i
 
 -- the command with these names of files, where it takes so many
 abbrev pub with_names : Kind → List (List ℕ) → Option Command
-with_names Check (classes ∷ policy ∷ []) = Some (check (record { classes = classes; policy = policy }))
+with_names Check (classes ∷ policy ∷ []) = Some (check (record { classes = classes; policy = policy; third = None }))
 with_names Asm (file ∷ []) = Some (asm file)
 with_names Dis (file ∷ []) = Some (dis file)
 with_names Help [] = Some help

@@ -65,6 +65,7 @@ fn with_names(kind: Kind, names: &[String]) -> Option<Command<'_>>
             [classes, policy] => Some(Command::Check(ProgramNames {
                 classes: classes.as_str(),
                 policy: policy.as_str(),
+                third: None,
             })),
             _ => None,
         },

@@ -182,6 +182,7 @@ fn type_list(rt: &HostRuntime, list: &str) -> io::Result<()> {
     let names = ProgramNames {
         classes: list,
         policy: list,
+        third: None,
     };
     let mut files = StdFiles::new(rt);
     match read_program(rt.alloc(), &mut files, names) {

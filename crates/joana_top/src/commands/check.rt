@@ -12,7 +12,7 @@ ghost use Rattle.joana_base.specs.declared.status.InputFault.TheVariants.{NotBui
 ghost use Rattle.joana_top.specs.Stops.{IsTypedProgram};
 ghost use Rattle.joana_top.specs.Check.{HasLimits, HasShortLimits, IsFormOf, IsVerdict, IsDecision, IsShown, IsProgramOutcome, IsFilesOutcome, IsCheckOutcome};
 
-use super::stops::{linked, policy_for, type_methods};
+use super::stops::{labelled, program_of};
 use hierarchy::Hierarchy;
 use jo_ids::MethodId;
 use jo_io::Files;
@@ -20,9 +20,7 @@ use jo_policy::laws::policies_label_well;
 use jo_prog::jvm_typing::is_plain;
 use jo_prog::labels::Labels;
 use jo_prog::program::{Program, code_at};
-use joana_base::{
-    Answer, InputFault, ProgramFiles, ProgramNames, Refusal, Stop, classes_of, read_program,
-};
+use joana_base::{Answer, InputFault, ProgramFiles, ProgramNames, Refusal, Stop, read_program};
 use low_run::refusal;
 use plain_graph::sdg;
 use std::alloc::{AllocError as Memory, Global};
@@ -112,11 +110,7 @@ fn check_program(alloc: Global, program: &Program, policy: &[u8]) -> Result<Answ
     let Ok(hierarchy) = Hierarchy::build(alloc, program) else {
         return Err(Stop::Memory);
     };
-    match type_methods(alloc, program, &hierarchy) {
-        Ok(()) => (),
-        Err(untyped) => return Err(untyped),
-    }
-    let policy = match policy_for(alloc, program, &hierarchy, policy) {
+    let policy = match labelled(alloc, program, &hierarchy, policy) {
         Ok(policy) => policy,
         Err(stop) => return Err(stop),
     };
@@ -132,15 +126,10 @@ fn check_files(alloc: Global, files: &ProgramFiles) -> Result<Answer, Stop>
     requires { AreReadable (in_bytes files.now) }
     ensures { IsFilesOutcome (in_bytes files.now) result }
 {
-    let classes = match classes_of(alloc, files.classes.as_slice()) {
-        Ok(classes) => classes,
-        Err(stop) => return Err(stop),
-    };
-    let program = match linked(alloc, classes) {
-        Ok(program) => program,
-        Err(stop) => return Err(stop),
-    };
-    check_program(alloc, &program, files.policy.as_slice())
+    match program_of(alloc, files) {
+        Ok(program) => check_program(alloc, &program, files.policy.as_slice()),
+        Err(stop) => Err(stop),
+    }
 }
 
 /// What `check` comes to.

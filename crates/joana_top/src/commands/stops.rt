@@ -6,7 +6,9 @@ ghost use Rattle.class_pool.specs.declared.classes.ClassFile.{ClassFile};
 ghost use Rattle.jo_prog.specs.Program.{HasNumbers};
 ghost use Rattle.jo_prog.specs.Spelling.{spelled_method};
 ghost use Rattle.hierarchy.specs.Hierarchies.{HasItsParents, IsHierarchyOf};
-ghost use Rattle.joana_top.specs.Stops.{link_kind, link_stop, IsTypedProgram, typing_kind, IsMethodStop, IsTypingStop, policy_kind, carried_levels, carried, IsLinked, IsLinkStop, GivesLabels, IsPolicyStop, IsLabelStop};
+ghost use Rattle.joana_base.specs.Files.{AreReadable};
+ghost use Rattle.joana_base.specs.Reading.{in_bytes};
+ghost use Rattle.joana_top.specs.Stops.{link_kind, link_stop, IsTypedProgram, typing_kind, IsMethodStop, IsTypingStop, policy_kind, carried_levels, carried, IsLinked, IsLinkStop, GivesLabels, IsPolicyStop, IsLabelStop, IsLabellingStop, IsProgramOf, IsMakingStop};
 
 use class_pool::ClassFile;
 use hierarchy::Hierarchy;
@@ -16,7 +18,10 @@ use jo_prog::program::Program;
 use jo_prog::spelling::push_method;
 use jo_prog::typed::TypeCode;
 use jo_text::{Name, push_escaped};
-use joana_base::{InputFault, LinkKind, PolicyKind, Refusal, Stop, TypingFault, TypingKind};
+use joana_base::{
+    InputFault, LinkKind, PolicyKind, ProgramFiles, Refusal, Stop, TypingFault, TypingKind,
+    classes_of,
+};
 use jvm_typing::programs::{MethodFault, type_program};
 use linker::{LinkCode, LinkFault, link};
 use std::alloc::{AllocError as Memory, Global};
@@ -50,7 +55,7 @@ fn link_stop(fault: LinkFault) -> Stop
 }
 
 /// The program of the class files.
-pub fn linked(alloc: Global, classes: Vec<ClassFile>) -> Result<Program, Stop>
+fn linked(alloc: Global, classes: Vec<ClassFile>) -> Result<Program, Stop>
     ensures program { IfOk result (IsLinked classes.items) }
     ensures numbers { IfOk result HasNumbers }
     ensures parents { IfOk result HasItsParents }
@@ -59,6 +64,24 @@ pub fn linked(alloc: Global, classes: Vec<ClassFile>) -> Result<Program, Stop>
     match link(alloc, classes) {
         Ok(program) => Ok(program),
         Err(fault) => Err(link_stop(fault)),
+    }
+}
+
+/// The program that the files make.
+pub fn program_of(alloc: Global, files: &ProgramFiles) -> Result<Program, Stop>
+    requires { AreReadable (in_bytes files.now) }
+    ensures program { IfOk result (IsProgramOf (in_bytes files.now)) }
+    ensures numbers { IfOk result HasNumbers }
+    ensures parents { IfOk result HasItsParents }
+    ensures stop { IfErr result (IsMakingStop (in_bytes files.now)) }
+{
+    let classes = match classes_of(alloc, &files.third, files.classes.as_slice()) {
+        Ok(classes) => classes,
+        Err(stop) => return Err(stop),
+    };
+    match linked(alloc, classes) {
+        Ok(program) => Ok(program),
+        Err(stop) => Err(stop),
     }
 }
 
@@ -107,7 +130,7 @@ fn method_stop(alloc: Global, program: &Program, found: &MethodFault) -> Stop
 }
 
 /// Types the methods of the program. What stops it is the first fault of the method with the least number.
-pub fn type_methods(alloc: Global, program: &Program, hierarchy: &Hierarchy) -> Result<(), Stop>
+fn type_methods(alloc: Global, program: &Program, hierarchy: &Hierarchy) -> Result<(), Stop>
     requires kept { IsHierarchyOf program.now hierarchy.now }
     requires few_classes { length program.now.classes < 2 ^ 32 }
     requires few { length program.now.methods < 2 ^ 32 }
@@ -234,7 +257,7 @@ fn policy_stop(alloc: Global, program: &Program, fault: &PolicyFault) -> Stop
 }
 
 /// The policy that a text gives the program.
-pub fn policy_for(
+fn policy_for(
     alloc: Global,
     program: &Program,
     hierarchy: &Hierarchy,
@@ -249,5 +272,29 @@ pub fn policy_for(
     match read_policy(alloc, text, program, hierarchy) {
         Ok(policy) => Ok(policy),
         Err(fault) => Err(policy_stop(alloc, program, &fault)),
+    }
+}
+
+/// The policy that a text gives a program, whose methods are typed first.
+pub fn labelled(
+    alloc: Global,
+    program: &Program,
+    hierarchy: &Hierarchy,
+    text: &[u8],
+) -> Result<Policy, Stop>
+    requires kept { IsHierarchyOf program.now hierarchy.now }
+    requires few_classes { length program.now.classes < 2 ^ 32 }
+    requires few { length program.now.methods < 2 ^ 32 }
+    ensures typed { IfOk result (λ _. IsTypedProgram program.now) }
+    ensures labels { IfOk result (λ policy. GivesLabels program.now text.now policy.labels) }
+    ensures stop { IfErr result (IsLabellingStop program.now text.now) }
+{
+    match type_methods(alloc, program, hierarchy) {
+        Ok(()) => (),
+        Err(untyped) => return Err(untyped),
+    }
+    match policy_for(alloc, program, hierarchy, text) {
+        Ok(policy) => Ok(policy),
+        Err(stop) => Err(stop),
     }
 }

@@ -18,9 +18,9 @@ pub returns-in-Err-clause-after : goal.returns-in-Err-clause-after
 returns-in-Err-clause-after g c =
     let at = slice_get_read c.args.paths.now (length c.args.paths.now) c.loop-place.place c.index-paths-place.result refl c.loop-place-test.true c.index-paths-place.is in
     let After : List ℕ → Type 0 = λ path.
-    AfterRead {T = Vec ℕ Global} (c.loop-place.place + 2) path (Err c.in-Err.stop)
+    AfterRead {T = Vec ℕ Global} (c.loop-place.place + c.args.first) path (Err c.in-Err.stop)
     (change_of (g.F.Files.held c.loop-place.files) (g.F.Files.faults c.loop-place.files) (g.F.Files.faults c.read_path.new.files) (g.F.Files.failed c.read_path.new.files)) in
-    path_stops (Vec ℕ Global) (Vec (Vec ℕ Global) Global) (g.F.Files.held c.args.files.now) (g.F.Files.held c.loop-place.files) c.args.paths.now c.loop-place.place c.index-paths-place.result c.in-Err.stop (g.F.Files.faults c.args.files.now) (g.F.Files.faults c.loop-place.files) (g.F.Files.faults c.read_path.new.files)
+    path_stops (Vec ℕ Global) (Vec (Vec ℕ Global) Global) (g.F.Files.held c.args.files.now) (g.F.Files.held c.loop-place.files) c.args.first c.args.paths.now c.loop-place.place c.index-paths-place.result c.in-Err.stop (g.F.Files.faults c.args.files.now) (g.F.Files.faults c.loop-place.files) (g.F.Files.faults c.read_path.new.files)
     (g.F.Files.failed c.read_path.new.files) at c.loop-place.invariant.quiet (subst After c.as_slice.ensures c.in-Err.ensures.after)
 
 pub loop-place-preserved : goal.loop-place-preserved

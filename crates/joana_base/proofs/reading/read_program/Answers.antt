@@ -1,7 +1,7 @@
 use Rattle.std.proofs.Common.{◌≡◌, ◌∙◌, false, true, List, ℕ, Ok, Err, subst}
 use Rattle.joana_base.specs.Files.{names_of}
 use Rattle.joana_base.specs.Files.{is_large}
-use Rattle.joana_base.specs.Reading.{all_bytes, ReadsList}
+use Rattle.joana_base.specs.Reading.{all_bytes, third_bytes, ReadsList}
 use Rattle.joana_base.proofs.ReadFiles.{holds_as, large_policy, large_list, program_read, list_stopped}
 use Rattle.joana_base.proofs.reading.read_program.Goals.{then-is_large-via-then-is_large, then-is_large-via-else-is_large+then-is_large-2}
 use Rattle.joana_base.proofs.reading.read_program.Goals as goal
@@ -26,9 +26,9 @@ returns-in-Ok-read_list-clause-read g c =
     let names = names_of c.args.names in
     let has_list = holds_as held between c.in-Ok.ensures.held names.classes c.in-Ok-read_file.list.items c.in-Ok-read_file.ensures.read in
     let Small : List ℕ → Type 0 = λ bytes. false ≡ is_large bytes in
-    let Reads : List ℕ → Type 0 = λ list. ReadsList later list (Ok c.in-Ok-read_list.classes) in
+    let Reads : List ℕ → Type 0 = λ list. ReadsList later names.third list (Ok c.in-Ok-read_list.behind) in
     program_read held names c.in-Ok.policy.items c.in-Ok-read_file.list.items c.in-Ok.ensures.read has_list later (λ name. c.in-Ok-read_file.ensures.held name ∙ c.in-Ok.ensures.held name)
-    (subst Small c.as_slice.ensures.value c.if-is_large.ensures) (subst Small c.as_slice-else-is_large.ensures.value c.if-is_large-2.ensures) (all_bytes c.in-Ok-read_list.classes.items)
+    (subst Small c.as_slice.ensures.value c.if-is_large.ensures) (subst Small c.as_slice-else-is_large.ensures.value c.if-is_large-2.ensures) (third_bytes c.in-Ok-read_list.behind.third) (all_bytes c.in-Ok-read_list.behind.classes.items)
     (subst Reads c.as_slice-2.ensures.value c.in-Ok-read_list.ensures.read)
 
 pub returns-in-Err-read_list-clause-read : goal.returns-in-Err-read_list-clause-read
@@ -39,7 +39,7 @@ returns-in-Err-read_list-clause-read g c =
     let names = names_of c.args.names in
     let has_list = holds_as held between c.in-Ok.ensures.held names.classes c.in-Ok-read_file.list.items c.in-Ok-read_file.ensures.read in
     let Small : List ℕ → Type 0 = λ bytes. false ≡ is_large bytes in
-    let Reads : List ℕ → Type 0 = λ list. ReadsList later list (Err c.in-Err-read_list.stop) in
+    let Reads : List ℕ → Type 0 = λ list. ReadsList later names.third list (Err c.in-Err-read_list.stop) in
     list_stopped held names c.in-Ok.policy.items c.in-Ok-read_file.list.items c.in-Ok.ensures.read has_list later (λ name. c.in-Ok-read_file.ensures.held name ∙ c.in-Ok.ensures.held name)
     (subst Small c.as_slice.ensures.value c.if-is_large.ensures) (subst Small c.as_slice-else-is_large.ensures.value c.if-is_large-2.ensures) c.in-Err-read_list.stop
     (subst Reads c.as_slice-2.ensures.value c.in-Err-read_list.ensures.read)

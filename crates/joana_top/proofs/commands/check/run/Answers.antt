@@ -1,7 +1,7 @@
 use Rattle.joana_base.specs.Files.{names_of}
 use Rattle.joana_base.specs.Reading.{in_bytes, files_change, IsProgramRead}
-use Rattle.joana_top.specs.Check.{IsVerdictOn, IsRefusalOf}
-use Rattle.joana_top.proofs.Outcomes.{quiet_outcome, check_outcome, read_stopped}
+use Rattle.joana_top.specs.Check.{IsVerdictOn, IsRefusalOf, RefusesProgram, IsCheckAnswer}
+use Rattle.joana_top.proofs.Outcomes.{quiet_outcome, named_outcome, read_stopped}
 use Rattle.joana_top.proofs.commands.check.run.Goals as goal
 
 pub returns-in-Ok-clause-after : goal.returns-in-Ok-clause-after
@@ -13,7 +13,10 @@ returns-in-Ok-clause-after g c =
 
 pub returns-in-Ok-clause-outcome : goal.returns-in-Ok-clause-outcome
 returns-in-Ok-clause-outcome g c =
-    check_outcome (g.F.Files.held c.args.files.now) (names_of c.args.names) (in_bytes c.in-Ok.read) c.check_files.result c.in-Ok.ensures.read.1 c.check_files.ensures
+    named_outcome IsVerdictOn IsRefusalOf (g.F.Files.held c.args.files.now) (names_of c.args.names) (in_bytes c.in-Ok.read) c.check_files.result c.in-Ok.ensures.read.1 c.check_files.ensures
 
 pub returns-in-Err-clause-outcome : goal.returns-in-Err-clause-outcome
-returns-in-Err-clause-outcome g c = read_stopped (g.F.Files.held c.args.files.now) (names_of c.args.names) c.in-Err.stop c.in-Err.ensures.read
+returns-in-Err-clause-outcome g c =
+    let held = g.F.Files.held c.args.files.now in
+    let names = names_of c.args.names in
+    read_stopped (IsCheckAnswer held names) (λ files program refused. RefusesProgram program files.policy refused) held names c.in-Err.stop c.in-Err.ensures.read
