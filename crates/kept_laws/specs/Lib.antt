@@ -1,0 +1,3 @@
+pub mod Paths
+pub mod Kept
+pub mod Going

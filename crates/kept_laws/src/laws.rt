@@ -1,0 +1,46 @@
+//! Laws of steps that keep states typed. Each function is empty: what it ensures is the law.
+ghost use Rattle.std.specs.Prelude.{◌≡◌, ℕ, false, List, ◌∷◌, Option, Some, slice_get};
+ghost use Rattle.jo_prog.specs.declared.labels.Labels.{Labels};
+ghost use Rattle.jo_insn.specs.declared.jumps.Placed.{Placed};
+ghost use Rattle.jo_prog.specs.declared.program.Code.{Code};
+ghost use Rattle.jo_prog.specs.InsnTyping.{insn_at};
+ghost use Rattle.jo_prog.specs.declared.program.Program.{Program};
+ghost use Rattle.jo_prog.specs.declared.runs.SourceInput.{SourceInput};
+ghost use Rattle.jo_prog.specs.Machine.{Frame, Thread, State};
+ghost use Rattle.jo_prog.specs.TypingPaths.{Typable, Step, IsTypable, IsTypedMethod, TypingPath, TakesStep, arrives_at};
+ghost use Rattle.jo_prog.specs.TypingPaths.{effect_at, leads_outside, successors_at};
+ghost use Rattle.machine.specs.Instructions.{Instruction, instruction_of};
+ghost use Rattle.machine.specs.Steps.{fetched, executed, step};
+ghost use Rattle.typed_states.specs.TypedStates.{IsReady, AreWaiting, IsTypedState};
+ghost use Rattle.step_laws.specs.Premises.{HasSoundHierarchy};
+ghost use Rattle.step_laws.specs.Effects.{HasEffect};
+ghost use Rattle.kept_laws.specs.Going.{is_return, LeadsOn, HasRaisedClasses};
+ghost use Rattle.kept_laws.specs.Paths.{HasFirstPaths, prolonged_by};
+ghost use Rattle.kept_laws.specs.Kept.{HasTypedStep};
+
+/// In a typed method each step that the code may take from the end of a typing path prolongs it.
+pub fn typing_paths_go_on()
+    ensures { (program : Program) (m : ℕ) → IsTypedMethod program m → HasFirstPaths program m → (t : Typable) → IsTypable program m t → (path : List Step) → TypingPath program t path → (row : Option ℕ) (to : ℕ) → TakesStep t.code (arrives_at path) row to → TypingPath program t (prolonged_by row to path) }
+{}
+
+/// A thread in which an exception is on its way has a next step, which leaves the state typed: at a handler with the exception alone on
+/// the stack, or with its top frame dropped.
+pub fn exceptions_keep_typing()
+    ensures { (program : Program) (labels : Labels) (inputs : List SourceInput) (s : State) → IsTypedState program s → (t : ℕ) (thread : Thread) (f : Frame) (below : List Frame) (a : ℕ)
+        → slice_get s.threads t ≡ Some thread → thread.pending ≡ Some a → thread.frames ≡ f ∷ below → IsTypedMethod program f.method → HasFirstPaths program f.method
+        → HasTypedStep program (step program labels inputs s t) }
+{}
+
+/// An instruction that is no call and no return, at a frame that is ready in a typed method, has a next state, which is typed.
+pub fn executed_instructions_keep_typing()
+    ensures { (program : Program) → HasSoundHierarchy program → HasRaisedClasses program → (s : State) → IsTypedState program s → (t : ℕ) (thread : Thread) → slice_get s.threads t ≡ Some thread
+        → (f : Frame) (below : List Frame) → IsTypedMethod program f.method → HasFirstPaths program f.method → (ready : IsReady program s.heap f) → AreWaiting program s.heap f.method below
+        → (instruction : Instruction) (next : ℕ) → HasEffect program instruction (effect_at program ready.has_shape.typable f.pc) → LeadsOn ready.has_shape.typable.code f.pc next instruction
+        → is_return instruction ≡ false → HasTypedStep program (executed program s t f below next instruction (fetched instruction f)) }
+{}
+
+/// Behind an instruction, and where it jumps, typing's paths go on, unless they lead out of the code.
+pub fn instructions_lead_on()
+    ensures { (program : Program) (m : ℕ) (code : Code) (placed : Placed) → insn_at code placed.pc ≡ Some placed → leads_outside code (successors_at code placed.pc) ≡ false
+        → (instruction : Instruction) → instruction_of program m code.bytes placed.pc placed.insn ≡ Some instruction → LeadsOn code placed.pc placed.next instruction }
+{}

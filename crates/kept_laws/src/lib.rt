@@ -1,0 +1,4 @@
+//! Laws of steps that keep states typed.
+#![tactic(auto)]
+
+pub mod laws;
