@@ -1,1 +1,2 @@
+pub mod NullLemmas
 pub mod PartLemmas
