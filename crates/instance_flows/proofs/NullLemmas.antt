@@ -6,22 +6,20 @@ use Rattle.std.proofs.lemmas.List.{get_or_past, get_or-replicate, length-replica
 use Rattle.jo_prog.proofs.WalkLemmas.{none_there}
 use Rattle.dependence.proofs.ListedLemmas.{taken_more}
 use Rattle.std.proofs.lemmas.Option.{same_Some, slice_get_within, slice_get_cases}
-use Rattle.jo_ids.specs.Path.{Path, stays, goes}
-use Rattle.jo_ids.specs.Rows.{has_number}
+use Rattle.jo_ids.specs.Path.{Path}
 use Rattle.jo_ids.proofs.PathLemmas.{path_more, path_edge, kept_along, path_in}
 use Rattle.jo_graph.specs.Graphs.{HasEdge, AddsEdge, IsReach}
 use Rattle.jo_insn.specs.declared.instructions.Insn.{Insn}
 use Rattle.jo_prog.specs.declared.program.Program.{Program}
-use Rattle.jo_prog.specs.Sites.{opcode_of}
 use Rattle.dep_nodes.specs.declared.kinds.NodeKind.{NodeKind}
-use Rattle.dep_nodes.specs.declared.kinds.NodeKind.TheVariants.{Entry, Exit, Instr, Call, RetVal, RetKind, Throw, Catch, Poll, XPoll, Arg, Param, Kind, Value, Thrown}
+use Rattle.dep_nodes.specs.declared.kinds.NodeKind.TheVariants.{Entry, Instr, RetVal}
 use Rattle.dependence.specs.declared.flow.Place.{Place}
-use Rattle.dependence.specs.declared.flow.Place.TheVariants.{Local, Stack, Pending}
+use Rattle.dependence.specs.declared.flow.Place.TheVariants.{Local}
 use Rattle.dependence.specs.declared.flows.FlowNode.{FlowNode}
 use Rattle.dependence.specs.declared.flows.FlowRow.{FlowRow}
 use Rattle.dependence.specs.declared.flows.Use.{Use}
 use Rattle.dependence.specs.Dependence.{Reaches, one, more}
-use Rattle.dependence.specs.FlowData.{IsUse, AreUses, ReadsIn, ReachesIn}
+use Rattle.dependence.specs.FlowData.{AreUses, ReachesIn}
 use Rattle.dependence.specs.WideGraph.{insn_at, StandsWith, WideEdge, IsWideNode}
 use Rattle.dependence.specs.NodePlaces.{Reads, Writes, WideReaches}
 use Rattle.dependence.specs.GraphsAsData.{kind_at, ListsRead, pc_kept, node_with, IsWideGraph}

@@ -1,18 +1,16 @@
 -- What is told by a node and the instruction that it keeps (this project's own form).
-use Rattle.std.specs.Prelude.{◌≡◌, ◌↔◌, ◌⊎◌, ℕ, ◌<◌, Bool, true, false, ◌||◌, ◌==◌, ℤ, List, Contains, Option, Some, None, length, slice_get, IsSomeAnd}
+use Rattle.std.specs.Prelude.{◌≡◌, ◌↔◌, ◌⊎◌, ℕ, ◌<◌, Bool, true, false, List, Contains, Option, Some, length, slice_get, IsSomeAnd}
 use Rattle.jo_ids.specs.Rows.{has_number}
 use Rattle.jo_insn.specs.declared.instructions.Insn.{Insn}
 use Rattle.jo_prog.specs.declared.program.Program.{Program}
-use Rattle.jo_prog.specs.declared.sites.Cause.TheVariants.{BadIndex}
-use Rattle.jo_prog.specs.Sites.{opcode_of, may_raise}
+use Rattle.jo_prog.specs.Sites.{opcode_of}
 use Rattle.dep_nodes.specs.declared.kinds.NodeKind.{NodeKind}
-use Rattle.dep_nodes.specs.declared.kinds.NodeKind.TheVariants.{Entry, Instr, Call, RetVal}
+use Rattle.dep_nodes.specs.declared.kinds.NodeKind.TheVariants.{Entry, Instr, RetVal}
 use Rattle.dependence.specs.declared.flow.Place.{Place}
-use Rattle.dependence.specs.declared.flows.FlowNode.{FlowNode}
 use Rattle.dependence.specs.declared.flows.FlowRow.{FlowRow}
 use Rattle.dependence.specs.declared.flows.Use.{Use}
 use Rattle.dependence.specs.GraphsAsData.{kind_at}
-use Rattle.dependence.specs.MayBeNull.{may_give_null, is_move, MayBeNull, constant_of}
+use Rattle.dependence.specs.MayBeNull.{may_give_null, is_move, MayBeNull}
 
 -- ---- nodes
 

@@ -1,4 +1,4 @@
-use Rattle.std.proofs.Common.{◌∙◌, List, Contains, get_or, sym, subst, arith}
+use Rattle.std.proofs.Common.{◌∙◌, List, get_or, sym, subst, arith}
 use Rattle.std.proofs.lemmas.List.{take_all}
 use Rattle.jo_prog.specs.TypingPaths.{HasHeightAt}
 use Rattle.dependence.specs.declared.flow.Place.TheVariants.{Local}
