@@ -4,10 +4,11 @@ use Rattle.jo_prog.specs.declared.program.Program.{Program}
 use Rattle.jo_prog.specs.declared.labels.Labels.{Labels}
 use Rattle.jo_prog.specs.declared.sites.Cause.TheVariants.{NullBase, MissingInterface}
 use Rattle.jo_prog.specs.Values.{Value, Info}
-use Rattle.jo_prog.specs.Machine.{HeapObject, info_of}
+use Rattle.jo_prog.specs.Machine.{HeapObject}
 use Rattle.machine.specs.Heaps.{is_marked}
 use Rattle.machine.specs.Invocation as machine
 use Rattle.machine.specs.Invocation.{enters, begins, joins, asks, shows, releases, fails, Callee, callee, begun, by_taken}
+pub use Rattle.jvm_values.specs.Types.{info_in}
 use Rattle.jvm_calls.specs.declared.invocation.Invoked.{Invoked}
 use Rattle.jvm_calls.specs.declared.invocation.Invoked.TheVariants.{Enters, Begins, Joins, Asks, Shows, Releases, Fails}
 use Rattle.jvm_calls.specs.declared.invocation.Call.{Call}
@@ -21,9 +22,6 @@ invoked_of values (Asks m) = asks m
 invoked_of values (Shows m z) = shows m z
 invoked_of values (Releases m z) = releases m z
 invoked_of values (Fails cause) = fails cause
-
-abbrev pub info_in : List HeapObject → ℕ → Info
-info_in heap a = info_of (slice_get heap a)
 
 abbrev pub marked_in : List HeapObject → ℕ → Bool
 marked_in heap a = is_marked (slice_get heap a)

@@ -20,8 +20,7 @@ use jo_prog::calls::{Taken, taken_from};
 use jo_prog::labels::{Label, Labels, label_of};
 use jo_prog::program::{Program, TypeRef};
 use jo_prog::sites::Cause;
-use jvm_exec::is_of_type;
-use jvm_values::{Address, Heap, Value};
+use jvm_values::{Address, Heap, Value, is_of_type};
 
 /// Opcodes of calls.
 const INVOKESTATIC: u8 = 184;

@@ -6,12 +6,13 @@ use Rattle.jo_prog.specs.declared.program.Program.{Program}
 use Rattle.jo_prog.specs.declared.program.TypeRef.{TypeRef}
 use Rattle.jo_prog.specs.declared.sites.Cause.TheVariants.{NullBase, BadIndex}
 use Rattle.jo_prog.specs.Values.{Value, int, null, Info, object, array, field, static}
-use Rattle.jo_prog.specs.Machine.{HeapObject, Thread, State, info_of, info_at}
+use Rattle.jo_prog.specs.Machine.{HeapObject, Thread, State, info_at}
 use Rattle.machine.specs.Arithmetic.{int_op, int_test, narrow, negated}
 use Rattle.machine.specs.Instructions.{Instruction}
 use Rattle.machine.specs.Execution.{Outcome, puts, jumps, raises, throws_at, returns, only, pushes_one, writes, content_pushed, kept, bool_int, is_inside, stored_element, measured, computed, jumps_if, reference_test, null_test, switched, created_array, cast_to, cell_read, exec}
 use Rattle.machine.specs.Heaps.{field_of, element_of}
 use Rattle.machine.specs.Steps.{ways, fits, read_from}
+pub use Rattle.jvm_values.specs.Types.{info_in, of_type}
 use Rattle.jvm_exec.specs.Shapes.{no_value, one_value, one_int, two_ints, one_reference, two_references, on_array, stored_on_array, on_object}
 
 -- what the machine does with values in a state
@@ -22,9 +23,6 @@ executes program s instruction values =
 -- a state with this heap and these static fields
 abbrev pub state_with : List HeapObject → List (Value ℕ) → List ℕ → List Thread → State
 state_with heap statics cursors threads = record { heap = heap; statics = statics; cursors = cursors; threads = threads }
-
-abbrev pub info_in : List HeapObject → ℕ → Info
-info_in heap a = info_of (slice_get heap a)
 
 -- where the values have that shape
 abbrev pub bind : {B : Type 0} → Option B → (B → Option (Outcome ℕ)) → Option (Outcome ℕ)
@@ -103,9 +101,6 @@ array_measured heap values = bind (one_reference values) (λ found. on_base foun
 
 abbrev pub thrown : List (Value ℕ) → Option (Outcome ℕ)
 thrown values = bind (one_reference values) (λ found. on_base found (λ a. only (throws_at a)))
-
-abbrev pub of_type : Program → List HeapObject → TypeRef → ℕ → Bool
-of_type program heap type a = (fits program).of_type (info_in heap a) type
 
 abbrev pub cast_one : Program → List HeapObject → TypeRef → Option ℕ → Option (Outcome ℕ)
 cast_one program heap type None = pushes_one null

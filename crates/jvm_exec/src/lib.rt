@@ -11,4 +11,3 @@ mod shapes;
 
 pub use execution::{exec, local_taken, pops};
 pub use outcomes::{Cell, Effect, Outcome, Pushed, Write};
-pub use references::is_of_type;

@@ -14,14 +14,13 @@ ghost use Rattle.jvm_exec.specs.Forms.{info_in, on_base, with_none, field_got, f
 
 use crate::moves::kept;
 use crate::outcomes::{Cell, Effect, Outcome};
-use crate::references::{is_of_array, is_of_class};
 use crate::shapes::{Stored, on_array, on_object, one_int, one_reference, stored_on_array};
 use hierarchy::Hierarchy;
 use jo_ids::FieldId;
 use jo_prog::program::Program;
 use jo_prog::sites::Cause;
 use jo_text::{Base, FieldDesc};
-use jvm_values::{Address, Heap, InfoView, Length, Value};
+use jvm_values::{Address, Heap, InfoView, Length, Value, is_of_array, is_of_class};
 
 /// What was read from a cell.
 fn content_pushed<'i>(content: Option<Value>) -> Option<Outcome<'i>>

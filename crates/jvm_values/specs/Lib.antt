@@ -1,3 +1,4 @@
 pub mod Values
 pub mod Heaps
 pub mod Resolved
+pub mod Types

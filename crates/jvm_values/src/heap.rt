@@ -1,5 +1,5 @@
 //! The heap: objects and arrays by their addresses.
-ghost use Rattle.std.specs.Prelude.{◌≡◌, ℕ, ◌++◌, ◌∷◌, [], length, map, replicate, Option, Some, None, option_map, slice_get, slice_set, IfOk, OnOk, OnErr};
+ghost use Rattle.std.specs.Prelude.{◌≡◌, ℕ, ◌++◌, ◌∷◌, [], length, map, replicate, take, Option, Some, None, option_map, slice_get, slice_set, IfOk, OnOk, OnErr};
 ghost use Rattle.std.specs.List.{position_or_len};
 ghost use Rattle.jo_prog.specs.declared.program.Program.{Program};
 ghost use Rattle.jo_prog.specs.Constants;
@@ -22,6 +22,9 @@ use jo_text::{Base, FieldDesc};
 use jo_types::copy_desc;
 use std::alloc::{AllocError, Global};
 use std::marker::Model;
+
+/// The number of java/lang/String.
+const STRING_NUMBER: u32 = 1;
 
 /// A field of an object with its value.
 #[derive(Clone, Copy)]
@@ -149,6 +152,18 @@ fn object_of_class(alloc: Global, program: &Program, class: ClassId) -> Result<H
     })
 }
 
+/// A string, which is an object without content.
+fn string_object(alloc: Global) -> HeapObject
+    ensures { object_of result ≡ Machine.string_object }
+{
+    HeapObject {
+        info: Info::Object(Id::of(STRING_NUMBER)),
+        fields: Vec::new(alloc),
+        elements: Vec::new(alloc),
+        started: false,
+    }
+}
+
 /// So many equal elements.
 fn elements_of(alloc: Global, value: Value, count: usize) -> Result<Vec<Value>, Memory>
     ensures { IfOk result (λ elements. elements.items ≡ replicate count value) }
@@ -256,6 +271,17 @@ impl Heap {
         }
     }
 
+    /// The heap of so many strings, which are objects without content.
+    pub fn of_strings(alloc: Global, count: u32) -> Result<Heap, Memory>
+        ensures { IfOk result (λ heap. heap ≡ replicate count Machine.string_object) }
+    {
+        let mut heap = Heap::new(alloc);
+        for _ in 0..count {
+            heap.add(string_object(alloc))?;
+        }
+        Ok(heap)
+    }
+
     fn add(&mut self, object: HeapObject) -> Result<Address, Memory>
         ensures ok { OnOk result (self.new ≡ self.old ++ object_of object ∷ []) }
         ensures address { IfOk result (λ address. address ≡ length self.old) }
@@ -283,6 +309,13 @@ impl Heap {
     {
         let object = made_of(alloc, program, info)?;
         self.add(object)
+    }
+
+    /// Takes back the object at an address and all that were made after it.
+    pub fn take_back(&mut self, address: Address)
+        ensures { self.new ≡ take address self.old }
+    {
+        self.objects.truncate(address as usize);
     }
 
     /// What stands at an address; an object of the class 0 where nothing stands.

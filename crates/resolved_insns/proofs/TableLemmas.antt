@@ -1,12 +1,12 @@
 -- Rows of instructions, filled one after another.
-use Rattle.std.proofs.Common.{◌≡◌, ◌⊎◌, ◌∙◌, sym, ap, refl, subst, ℕ, zero, suc, ◌<◌, Bool, true, false, ◌||◌, List, [], ◌∷◌, ◌++◌, length, Option, Some, None, slice_get, slice_set, Vec, Global, arith, inl, inr}
+use Rattle.std.proofs.Common.{◌≡◌, ◌⊎◌, ◌∙◌, sym, ap, refl, subst, ℕ, zero, suc, ◌<◌, ◌≤◌, Bool, true, false, ◌||◌, List, [], ◌∷◌, ◌++◌, length, Option, Some, None, slice_get, slice_set, Vec, Global, arith, inl, inr}
 use Rattle.std.specs.Prelude.{pos, if◌then◌else◌, IfSome, Result, Ok, Err, nat_lt, ◌^◌}
 use Rattle.std.specs.List.{AllByRecursion}
 use Rattle.std.specs.Option.{option_flatten}
 use Rattle.std.specs.Ordering.{int_eq}
-use Rattle.std.proofs.lemmas.Bool.{false≢true}
+use Rattle.std.proofs.lemmas.Bool.{false≢true, cases_lt}
 use Rattle.std.proofs.lemmas.Bool.Decides.{Decides-int_eq}
-use Rattle.std.proofs.lemmas.Option.{none-some, same_Some, slice_get_within}
+use Rattle.std.proofs.lemmas.Option.{none-some, same_Some, slice_get_within, slice_get_past}
 use Rattle.jo_insn.specs.declared.instructions.Insn.{Insn}
 use Rattle.jo_insn.specs.declared.instructions.InsnFault.{InsnFault}
 use Rattle.jo_insn.specs.declared.jumps.Placed.{Placed}
@@ -18,11 +18,11 @@ use Rattle.jo_prog.specs.declared.program.Code.{Code}
 use Rattle.jo_prog.specs.declared.program.Method.{Method}
 use Rattle.jo_prog.specs.Program.{method_at}
 use Rattle.jo_prog.specs.Sites.{followed, insns_from, insns_in}
-use Rattle.machine.specs.Instructions.{with_next, instruction_at}
+use Rattle.machine.specs.Instructions.{Instruction, with_next, instruction_at}
 use Rattle.jvm_values.specs.declared.resolved.Resolved.{Resolved}
 use Rattle.resolved_insns.specs.declared.table.Instructions.{Instructions}
 use Rattle.jvm_values.specs.Resolved.{IsSeenAt}
-use Rattle.resolved_insns.specs.Tables.{slot, AreEmpty, IsSlot, IsSound, IsWhole, IsRowIn, IsRowOf, starts_at, found_at, AreInstructionsOf}
+use Rattle.resolved_insns.specs.Tables.{slot, is_call, IsCallIn, HasCall, HasCalls, IsSlot, IsSound, IsWhole, IsRowIn, IsRowOf, starts_at, found_at, AreInstructionsOf}
 
 -- ---- the instructions of code are in their places
 
@@ -42,6 +42,55 @@ module _ (code : List ℕ) where
   -- each starts inside
   pub inside : (placed : Placed) → IsPlacedIn code placed → placed.pc < length code
   inside placed is = let moves = decoded-moves code placed.pc placed.next placed.insn is in omega arith
+
+  -- past the end nothing stands
+  past_end : (program : Program) (m pc : ℕ) → length code ≤ pc → is_call (with_next program m code pc (decoded code pc)) ≡ false
+  past_end program m pc past = by_found (decoded code pc) refl
+    where
+      by_found : (found : Result (Insn × ℕ) InsnFault) → decoded code pc ≡ found → is_call (with_next program m code pc found) ≡ false
+      by_found (Err fault) is = refl
+      by_found (Ok found) is =
+          let placed : Placed = record { pc = pc; insn = found.0; next = found.1 } in
+          let within : pc < length code = inside placed is in
+          absurd (omega arith)
+
+-- ---- calls
+
+module _ (program : Program) (wanted : Option (Instruction × ℕ)) where
+  pub found_right : (found : Option Resolved) → IsCallIn program wanted found → IfSome found (λ one. IsSeenAt program wanted (Some one))
+  found_right None is = tt
+  found_right (Some one) is = is
+
+  pub also_call : (found : Option Resolved) → IsSeenAt program wanted found → IsCallIn program wanted found
+  also_call None is = ap is_call is
+  also_call (Some one) is = is
+
+  pub no_call_where_none : (found : Option Resolved) → IsCallIn program wanted found → found ≡ None → is_call wanted ≡ false
+  no_call_where_none None is none = is
+  no_call_where_none (Some one) is none = absurd (none-some one (sym none))
+
+module _ {A : Type 0} where
+  one_more : (P : ℕ → Option A → Type 0) (row : List (Option A)) (x : Option A) → ((k : ℕ) → k < length row → P k (option_flatten (slice_get row k))) → P (length row) x → (k : ℕ) → k < length (row ++ x ∷ []) → P k (option_flatten (slice_get (row ++ x ∷ []) k))
+  one_more P [] x old new zero below = new
+  one_more P [] x old new (suc k) below = absurd (omega arith)
+  one_more P (y ∷ row) x old new zero below = old 0 (omega arith)
+  one_more P (y ∷ row) x old new (suc k) below = one_more (λ n. P (suc n)) row x (λ n within. old (suc n) (omega arith)) new k (omega arith)
+
+module _ (program : Program) (m : ℕ) (code : List ℕ) where
+  -- the slots before the end of a row that grows
+  abbrev pub HasCallsInside : List (Option Resolved) → Type 0
+  HasCallsInside row = (pc : ℕ) → pc < length row → HasCall program m code pc (slot row pc)
+
+  pub one_call : (row : List (Option Resolved)) (pc : ℕ) (found : Option Resolved) → length row ≡ pc → HasCallsInside row → HasCall program m code pc found → HasCallsInside (row ++ found ∷ [])
+  one_call row pc found size old new = one_more (HasCall program m code) row found old (subst (λ (n : ℕ). HasCall program m code n found) (sym size) new)
+
+  pub all_calls : (row : List (Option Resolved)) → length row ≡ length code → HasCallsInside row → HasCalls program m code row
+  all_calls row size inside pc = elim (cases_lt pc (length row)) [
+    | inl within ↦ inside pc within
+    | inr past ↦
+        let none : slot row pc ≡ None = ap option_flatten (slice_get_past row pc past) in
+        subst (λ (o : Option Resolved). HasCall program m code pc o) (sym none) (past_end code program m pc (omega arith))
+  ]
 
 -- ---- one slot more
 
@@ -73,16 +122,18 @@ module _ {A : Type 0} where
 pub record IsWholeBut (program : Program) (m : ℕ) (code : List ℕ) (insns rest : List Placed) (row : List (Option Resolved)) : Type 0 where
   pub sound : IsSound program m code row
   pub whole : (pc : ℕ) → is_start insns (pos pc) ≡ true → is_start rest (pos pc) ≡ false → IsSlot program m code pc (slot row pc)
+  pub calls : HasCalls program m code row
 
 module _ (program : Program) (m : ℕ) (code : List ℕ) (insns : List Placed) where
-  pub begins : (row : List (Option Resolved)) → AreEmpty row → IsWholeBut program m code insns insns row
-  begins row empty = record {
-    sound = λ pc. subst (λ (o : Option Resolved). IfSome o (λ found. IsSlot program m code pc (Some found))) (sym (empty pc)) tt;
+  pub begins : (row : List (Option Resolved)) → HasCalls program m code row → IsWholeBut program m code insns insns row
+  begins row calls = record {
+    sound = λ pc. found_right program (with_next program m code pc (decoded code pc)) (slot row pc) (calls pc);
     whole = λ pc starts not_left. absurd (false≢true (sym not_left ∙ starts));
+    calls = calls;
   }
 
   pub ends : (row : List (Option Resolved)) → IsWholeBut program m code insns [] row → IsWhole program m code insns row
-  ends row whole = record { sound = whole.sound; whole = λ pc starts. whole.whole pc starts refl }
+  ends row whole = record { sound = whole.sound; whole = λ pc starts. whole.whole pc starts refl; calls = whole.calls }
 
   if_found : (pc : ℕ) (found : Option Resolved) → IsSlot program m code pc found → IfSome found (λ one. IsSlot program m code pc (Some one))
   if_found pc None is = tt
@@ -111,25 +162,34 @@ module _ (program : Program) (m : ℕ) (code : List ℕ) (insns : List Placed) w
     is_there pc false other starts left =
         subst (λ (o : Option Resolved). IsSlot program m code pc o) (sym (off_pc pc other)) (old.whole pc starts (ap (λ b. b || is_start rest (pos pc)) other ∙ left))
 
+    is_called : (pc : ℕ) (b : Bool) → int_eq (pos placed.pc) (pos pc) ≡ b → HasCall program m code pc (slot (slice_set row placed.pc found) pc)
+    is_called pc true same =
+        let at = at_pc pc same in
+        subst (λ (o : Option Resolved). HasCall program m code pc o) (sym at.1) (also_call program (with_next program m code pc (decoded code pc)) found at.0)
+    is_called pc false other = subst (λ (o : Option Resolved). HasCall program m code pc o) (sym (off_pc pc other)) (old.calls pc)
+
     pub one_slot : IsWholeBut program m code insns rest (slice_set row placed.pc found)
     one_slot = record {
       sound = λ pc. is_sound pc (int_eq (pos placed.pc) (pos pc)) refl;
       whole = λ pc starts left. is_there pc (int_eq (pos placed.pc) (pos pc)) refl starts left;
+      calls = λ pc. is_called pc (int_eq (pos placed.pc) (pos pc)) refl;
     }
 
 -- ---- the row of a method
 
 pub no_code_row : (program : Program) (m : ℕ) → IsRowIn program m None []
-no_code_row program m = record { sound = λ pc. tt; whole = λ pc starts. refl }
+no_code_row program m = record { sound = λ pc. tt; whole = λ pc starts. refl; calls = λ pc none. refl }
 
 pub long_row : (program : Program) (m : ℕ) (code : Code) → nat_lt (length code.bytes) (2 ^ 16) ≡ false → IsRowIn program m (Some code) []
-long_row program m code long = record { sound = λ pc. tt; whole = λ pc starts. rw long refl }
+long_row program m code long = record { sound = λ pc. tt; whole = λ pc starts. rw long refl; calls = λ pc none. rw long refl }
 
 pub short_row : (program : Program) (m : ℕ) (code : Code) (row : List (Option Resolved)) → nat_lt (length code.bytes) (2 ^ 16) ≡ true → IsWhole program m code.bytes (insns_in code.bytes) row → IsRowIn program m (Some code) row
 short_row program m code row short whole = record {
   sound = λ pc. subst (λ (b : Bool). IfSome (slot row pc) (λ found. IsSeenAt program (if b then with_next program m code.bytes pc (decoded code.bytes pc) else None) (Some found))) (sym short) (whole.sound pc);
   whole = λ pc starts. subst (λ (b : Bool). IsSeenAt program (if b then with_next program m code.bytes pc (decoded code.bytes pc) else None) (slot row pc)) (sym short)
       (whole.whole pc (rw short at starts));
+  calls = λ pc none. subst (λ (b : Bool). is_call (if b then with_next program m code.bytes pc (decoded code.bytes pc) else None) ≡ false) (sym short)
+      (no_call_where_none program (with_next program m code.bytes pc (decoded code.bytes pc)) (slot row pc) (whole.calls pc) none);
 }
 
 -- ---- the table
@@ -161,8 +221,13 @@ module _ (program : Program) (instructions : Instructions) (count : length instr
   table_whole m pc None at starts = none_past m pc (method_at program m) refl at
   table_whole m pc (Some row) at starts = (are m row at).whole pc starts
 
+  table_calls : (m pc : ℕ) (row : Option (Vec (Option Resolved) Global)) → slice_get instructions.rows.items m ≡ row → found_at row pc ≡ None → is_call (instruction_at program m pc) ≡ false
+  table_calls m pc None at none = ap is_call (none_past m pc (method_at program m) refl at)
+  table_calls m pc (Some row) at none = (are m row at).calls pc none
+
   pub are_instructions : AreInstructionsOf program instructions
   are_instructions = record {
     sound = λ m pc. table_sound m pc (slice_get instructions.rows.items m) refl;
     whole = λ m pc. table_whole m pc (slice_get instructions.rows.items m) refl;
+    calls = λ m pc. table_calls m pc (slice_get instructions.rows.items m) refl;
   }

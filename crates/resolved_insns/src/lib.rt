@@ -8,5 +8,6 @@ mod strings;
 mod switches;
 mod table;
 
+pub use resolving::resolve_at;
 pub use strings::Strings;
 pub use table::Instructions;

@@ -6,9 +6,9 @@ ghost use Rattle.jo_insn.specs.Jumps.{IsPlacedIn};
 ghost use Rattle.jo_prog.specs.Program.{code_at as code_with};
 ghost use Rattle.hierarchy.specs.Hierarchies.{IsHierarchyOf};
 ghost use Rattle.resolved_insns.specs.Strings.{AreStringsOf};
-ghost use Rattle.resolved_insns.specs.Tables.{AreEmpty, IsWhole, IsRowIn, IsRowOf, found_in, AreInstructionsOf};
+ghost use Rattle.resolved_insns.specs.Tables.{HasCalls, IsWhole, IsRowIn, IsRowOf, found_in, AreInstructionsOf};
 
-use crate::resolving::resolve;
+use crate::resolving::{LONGEST_CODE, pooled_at, resolve};
 use crate::strings::Strings;
 use hierarchy::Hierarchy;
 use jo_ids::{Id, Memory, MethodId};
@@ -18,23 +18,31 @@ use jo_prog::sites::instructions;
 use jvm_values::Resolved;
 use std::alloc::Global;
 
-/// How many bytes code has at most.
-const LONGEST_CODE: usize = 65_535;
-
 /// For each method and each pc the instruction that starts there.
 #[derive(Drop)]
 pub struct Instructions {
     rows: Vec<Vec<Option<Resolved>>>,
 }
 
-/// A row for so many pcs.
-fn empty_row(alloc: Global, size: usize) -> Result<Vec<Option<Resolved>>, Memory>
-    ensures size { IfOk result (λ row. length row.items ≡ size) }
-    ensures empty { IfOk result (λ row. AreEmpty row.items) }
+/// For each pc of some code the instruction there, where it names an operand: no call is missing, also where no instruction starts.
+fn row_of_calls(
+    alloc: Global,
+    program: &Program,
+    hierarchy: &Hierarchy,
+    strings: &Strings,
+    method: MethodId,
+    code: &[u8],
+) -> Result<Vec<Option<Resolved>>, Memory>
+    requires kept { IsHierarchyOf program.now hierarchy.now }
+    requires strings { AreStringsOf program.now strings.now }
+    requires short { length code.now < 2 ^ 16 }
+    ensures size { IfOk result (λ row. length row.items ≡ length code.now) }
+    ensures calls { IfOk result (λ row. HasCalls program.now method code.now row.items) }
 {
     let mut row = Vec::new(alloc);
-    for _ in 0..size {
-        row.push(None)?;
+    for pc in 0..code.len() {
+        let found = pooled_at(alloc, program, hierarchy, strings, method, code, pc as u32)?;
+        row.push(found)?;
     }
     Ok(row)
 }
@@ -63,7 +71,7 @@ fn fill(
     requires short { length code.now < 2 ^ 16 }
     requires placed { AllByRecursion (IsPlacedIn code.now) insns.now }
     requires size { length row.old.items ≡ length code.now }
-    requires empty { AreEmpty row.old.items }
+    requires calls { HasCalls program.now method code.now row.old.items }
     ensures { OnOk result (IsWhole program.now method code.now insns.now row.new.items) }
 {
     for placed in insns {
@@ -91,7 +99,7 @@ fn row_in(
         return Ok(Vec::new(alloc));
     }
     let insns = instructions(alloc, bytes)?;
-    let mut row = empty_row(alloc, bytes.len())?;
+    let mut row = row_of_calls(alloc, program, hierarchy, strings, method, bytes)?;
     fill(
         alloc,
         program,
@@ -147,7 +155,7 @@ impl Instructions {
     }
 
     /// The instruction at a pc of a method, where one starts there when the code is read from its first byte on, and what it names is
-    /// found. `None` at all other pcs.
+    /// found; a call is found at every pc. `None` may stand at all other pcs.
     pub fn at(&self, method: MethodId, pc: u32) -> Option<&Resolved>
         ensures { option_copied result ≡ found_in self.now method pc }
     {
