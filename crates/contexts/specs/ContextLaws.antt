@@ -102,7 +102,6 @@ two_decided (TwoSites a b) (TwoSites c d) =
 pub insensitive_keeps : KeepsTwo insensitive
 insensitive_keeps =
     record {
-      root = none_is_short;
       call = λ caller site h. none_is_short;
       call_on = λ caller context site made_at h k. none_is_short;
       heap = λ context site h. none_is_short;
@@ -111,7 +110,6 @@ insensitive_keeps =
 pub one_keeps : KeepsTwo one_object_sensitive
 one_keeps =
     record {
-      root = none_is_short;
       call = λ caller site h. h;
       call_on = λ caller context site made_at h k. one_is_short;
       heap = λ context site h. none_is_short;
@@ -128,7 +126,6 @@ after_first made_at (x ∷ xs) = two_are_short
 pub two_keep : KeepsTwo two_object_sensitive
 two_keep =
     record {
-      root = none_is_short;
       call = λ caller site h. h;
       call_on = λ caller context site made_at h k. after_first made_at context;
       heap = λ context site h. first_is_short context;

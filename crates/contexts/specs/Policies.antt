@@ -15,16 +15,15 @@ receiver_at site context = record { site = site; context = context }
 abbrev pub receiver_of : {C : Type 0} → (C → List ℕ) → ObjKey C → Receiver
 receiver_of list object = record { site = object.site; context = list object.context }
 
--- the context in which the program starts, that of what is called by a caller in its context at a site on a receiver
--- (if it has one), and that of an object which is made in a method's context at a site
+-- the context of what is called by a caller in its context at a site on a receiver (if it has one), and that of an object which
+-- is made in a method's context at a site; the program starts in the empty one
 pub record ContextPolicy : Type 0 where
-  pub root : List ℕ
   pub enter : List ℕ → ℕ → Option Receiver → List ℕ
   pub heap : List ℕ → ℕ → List ℕ
 
 -- one context for all (context-insensitive)
 abbrev pub insensitive : ContextPolicy
-insensitive = record { root = []; enter = λ caller site receiver. []; heap = λ context site. [] }
+insensitive = record { enter = λ caller site receiver. []; heap = λ context site. [] }
 
 -- the receiver's site, and the caller's context where there is no receiver
 abbrev pub receiver_site : List ℕ → Option Receiver → List ℕ
@@ -35,7 +34,6 @@ receiver_site caller (Some receiver) = receiver.site ∷ []
 abbrev pub one_object_sensitive : ContextPolicy
 one_object_sensitive =
     record {
-      root = [];
       enter = λ caller site receiver. receiver_site caller receiver;
       heap = λ context site. [];
     }
@@ -50,14 +48,13 @@ receiver_and_its_maker caller (Some receiver) = receiver.site ∷ take 1 receive
 abbrev pub two_object_sensitive : ContextPolicy
 two_object_sensitive =
     record {
-      root = [];
       enter = λ caller site receiver. receiver_and_its_maker caller receiver;
       heap = λ context site. take 1 context;
     }
 
 -- a context that the policy gives to a method or an object: from the root by calls and objects made
 pub data IsContext (policy : ContextPolicy) : List ℕ → Type 0 where
-  starts : IsContext policy policy.root
+  starts : IsContext policy []
   calls : (caller : List ℕ) (site : ℕ) → IsContext policy caller
       → IsContext policy (policy.enter caller site None)
   calls_on : (caller context : List ℕ) (site made_at : ℕ) → IsContext policy caller → IsContext policy context
@@ -67,7 +64,6 @@ pub data IsContext (policy : ContextPolicy) : List ℕ → Type 0 where
 
 -- no context has more than two sites where those that it is made from have not
 pub record KeepsTwo (policy : ContextPolicy) : Type 0 where
-  pub root : length policy.root ≤ 2
   pub call : (caller : List ℕ) (site : ℕ) → length caller ≤ 2 → length (policy.enter caller site None) ≤ 2
   pub call_on : (caller context : List ℕ) (site made_at : ℕ) → length caller ≤ 2 → length context ≤ 2
       → length (policy.enter caller site (Some (receiver_at made_at context))) ≤ 2

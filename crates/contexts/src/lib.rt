@@ -7,7 +7,7 @@ mod sites;
 #[cfg(test)]
 mod tests;
 
-ghost use Rattle.std.specs.Prelude.{◌≡◌, ◌≤◌, ℕ, List, length, option_map};
+ghost use Rattle.std.specs.Prelude.{◌≡◌, ◌≤◌, ℕ, List, [], length, option_map};
 ghost use Rattle.std.specs.Bool.{Decides};
 ghost use Rattle.contexts.specs.Policies.{ContextPolicy, KeepsTwo, receiver_of};
 ghost use Rattle.contexts.specs.SiteLists.{sites_in, site_list};
@@ -28,9 +28,9 @@ pub trait Contexts {
     /// The sites of a context.
     ghost list: { Self.C → List ℕ };
 
-    /// The context in which the program starts.
+    /// The context in which the program starts, which is that of its string constants and of the entry's array.
     fn root(&self) -> Self::C
-        ensures { list result ≡ (policy self.now).root };
+        ensures { list result ≡ [] };
 
     /// The context of what is called at `site` by a method in the context `caller`. A receiver has its context as an
     /// object.

@@ -168,8 +168,8 @@ CallsInThread facts i j = (pc : ℕ) × facts (Target i pc j)
 -- A fact follows from others by one rule, in a program with this entry.
 pub data ByRule (program : Program) (policy : ContextPolicy) (H : ℕ → ℕ → ℕ → Type 0) (entry : ℕ) (facts : Fact (List ℕ) → Type 0) : Fact (List ℕ) → Type 0 where
   -- the program: its entry runs, on an array of strings where it has a parameter, and fields have their first values
-  enters : (i : InstKey (List ℕ)) → i ≡ instance_at entry policy.root → ByRule program policy H entry facts (Reached i)
-  is_given : (i : InstKey (List ℕ)) (count : ℕ) → i ≡ instance_at entry policy.root → HasParameters program entry count → 0 < count
+  enters : (i : InstKey (List ℕ)) → i ≡ instance_at entry [] → ByRule program policy H entry facts (Reached i)
+  is_given : (i : InstKey (List ℕ)) (count : ℕ) → i ≡ instance_at entry [] → HasParameters program entry count → 0 < count
       → ByRule program policy H entry facts (Holds i (Param 0) args_object)
   begins_with : (f : ℕ) → IsTextField program f → ByRule program policy H entry facts (CellHolds (Static f) string_object)
   -- what makes objects

@@ -1,2 +1,3 @@
+mod FirstStates
 mod RenamedExec
 mod RenamedCalls

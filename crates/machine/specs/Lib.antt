@@ -7,3 +7,4 @@ pub mod Steps
 pub mod Runs
 pub mod Renamings
 pub mod Worked
+pub mod TypedStates

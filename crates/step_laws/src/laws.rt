@@ -23,7 +23,7 @@ ghost use Rattle.machine.specs.Instructions.{Instruction, instruction_of};
 ghost use Rattle.machine.specs.Execution.{cell_read, exec};
 ghost use Rattle.machine.specs.Heaps.{new_object, with_new, with_content};
 ghost use Rattle.machine.specs.Steps.{ways, fits, read_from, fetched, executed, step};
-ghost use Rattle.typed_states.specs.TypedStates.{HasKind, IsOnStack, IsReady, IsTypedState};
+ghost use Rattle.machine.specs.TypedStates.{HasKind, IsOnStack, IsReady, IsTypedState};
 ghost use Rattle.step_laws.specs.Growth.{CanBeMade};
 ghost use Rattle.step_laws.specs.Tables.{asks_nothing, is_call, IsSoundInsn, HasSoundCode, IsInstructionWith};
 ghost use Rattle.step_laws.specs.Fetches.{IsGivenValues, HasStep};
