@@ -6,7 +6,7 @@ use Rattle.jo_prog.specs.declared.program.Program.{Program}
 use Rattle.jo_prog.specs.Values.{Value, Cell}
 use Rattle.jo_prog.specs.Machine.{HeapObject, State}
 use Rattle.machine.specs.Heaps.{with_content, on_object, field_written, element_written, with_new}
-use Rattle.machine.specs.TypedStates.{Pairwise, no_more, one_more}
+use Rattle.step_laws.specs.TypedStates.{Pairwise, no_more, one_more}
 use Rattle.step_laws.specs.Growth.{StillStands, GrowsTo}
 use Rattle.step_laws.specs.Effects.{TakesValue, in_field, in_element, in_static}
 use Rattle.step_laws.proofs.KeptLemmas.{set_there, set_kept}

@@ -17,7 +17,7 @@ use Rattle.machine.specs.Invocation.{type_of}
 use Rattle.machine.specs.Heaps.{new_object, new_address, with_new, with_content}
 use Rattle.machine.specs.Steps.{ways, fits, read_from, with_frames, fetched, with_written, applied, apply_outcome, executed}
 use Rattle.jo_prog.specs.Machine.{info_at}
-use Rattle.machine.specs.TypedStates.{an_object, PlaceHasKind, set, IsOnStack, Pairwise, no_more, one_more, HasShape, IsReady, AreWaiting, StandsAt, IsTypedState}
+use Rattle.step_laws.specs.TypedStates.{an_object, PlaceHasKind, set, IsOnStack, Pairwise, no_more, one_more, HasShape, IsReady, AreWaiting, StandsAt, IsTypedState}
 use Rattle.step_laws.specs.Premises.{HasSoundHierarchy}
 use Rattle.step_laws.specs.Growth.{CanBeMade}
 use Rattle.step_laws.specs.Effects.{HasEffect, IsMade, Follows, by_push, by_write, by_put, by_jump, by_raise, by_throw, by_new, by_return}

@@ -5,7 +5,7 @@ use Rattle.jo_prog.specs.declared.program.Program.{Program}
 use Rattle.jo_prog.specs.InsnTyping.{throwable}
 use Rattle.jo_prog.specs.Machine.{Frame, Thread, State}
 use Rattle.machine.specs.Steps.{object_of, with_frames}
-use Rattle.machine.specs.TypedStates.{AreFrames, StandsAt, IsTypedThread, IsTypedState}
+use Rattle.step_laws.specs.TypedStates.{AreFrames, StandsAt, IsTypedThread, IsTypedState}
 use Rattle.step_laws.proofs.KeptLemmas.{set_read}
 
 module _ (program : Program) (s : State) (state : IsTypedState program s) (t : ℕ) (thread : Thread) (at : slice_get s.threads t ≡ Some thread)

@@ -24,7 +24,7 @@ use Rattle.jo_prog.specs.Values.{ref, Info, object, array}
 use Rattle.jo_prog.specs.Machine.{Frame, Thread, State, info_of, info_at}
 use Rattle.machine.specs.Invocation.{class_of, type_of}
 use Rattle.machine.specs.Steps.{at_pc, caught, rows_of, unwound, step_frames, step_thread, step}
-use Rattle.machine.specs.TypedStates.{an_object, set, no_more, one_more, has_dims, IsReady, IsLeft, AreWaiting, AreFrames, StandsAt, IsTypedState}
+use Rattle.step_laws.specs.TypedStates.{an_object, set, no_more, one_more, has_dims, IsReady, IsLeft, AreWaiting, AreFrames, StandsAt, IsTypedState}
 use Rattle.step_laws.proofs.TypeLemmas.{never}
 use Rattle.kept_laws.specs.Paths.{HasFirstPaths}
 use Rattle.kept_laws.specs.Kept.{HasTypedStep}

@@ -2,7 +2,7 @@
 use Rattle.std.specs.Prelude.{◌≡◌, Option, Some}
 use Rattle.jo_prog.specs.declared.program.Program.{Program}
 use Rattle.jo_prog.specs.Machine.{Stepped}
-use Rattle.machine.specs.TypedStates.{IsTypedState}
+use Rattle.step_laws.specs.TypedStates.{IsTypedState}
 
 -- the machine has a next state, and it is typed
 pub record HasTypedStep (program : Program) (stepped : Option Stepped) : Type 0 where

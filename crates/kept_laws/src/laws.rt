@@ -11,7 +11,7 @@ ghost use Rattle.jo_prog.specs.TypingPaths.{Typable, Step, IsTypable, IsTypedMet
 ghost use Rattle.jo_prog.specs.TypingPaths.{effect_at, leads_outside, successors_at};
 ghost use Rattle.machine.specs.Instructions.{Instruction, instruction_of};
 ghost use Rattle.machine.specs.Steps.{fetched, executed, step};
-ghost use Rattle.machine.specs.TypedStates.{IsReady, AreWaiting, IsTypedState};
+ghost use Rattle.step_laws.specs.TypedStates.{IsReady, AreWaiting, IsTypedState};
 ghost use Rattle.step_laws.specs.Premises.{HasSoundHierarchy};
 ghost use Rattle.step_laws.specs.Effects.{HasEffect};
 ghost use Rattle.kept_laws.specs.Going.{is_return, LeadsOn, HasRaisedClasses};

@@ -1,3 +1,2 @@
-mod FirstStates
 mod RenamedExec
 mod RenamedCalls

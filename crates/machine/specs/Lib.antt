@@ -7,4 +7,3 @@ pub mod Steps
 pub mod Runs
 pub mod Renamings
 pub mod Worked
-pub mod TypedStates

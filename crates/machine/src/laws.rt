@@ -1,20 +1,14 @@
-//! Laws of the machine and of its typed states. Each function is empty: what it ensures is the law.
-ghost use Rattle.std.specs.Prelude.{◌≡◌, ℕ, ℤ, Bool, true, false, pos, negsuc, List, [], ◌∷◌, map, replicate, Option, Some, None, slice_get};
-ghost use Rattle.jo_prog.specs.declared.program.Program.{Program};
-ghost use Rattle.jo_prog.specs.declared.program.TypeRef.{TypeRef};
+//! Laws of the machine. Each function is empty: what it ensures is the law.
+ghost use Rattle.std.specs.Prelude.{◌≡◌, ℕ, Bool, true, false, pos, negsuc, List, [], ◌∷◌, map, replicate, Option, Some, None};
 ghost use Rattle.jo_prog.specs.declared.runs.Event.TheVariants.{Out};
 ghost use Rattle.jo_prog.specs.declared.sites.Cause.TheVariants.{NullBase, BadIndex, WrongElement, MissingInterface, SecondStart};
-ghost use Rattle.jo_prog.specs.Machine.{HeapObject, start};
-ghost use Rattle.jo_prog.specs.Shapes.{takes_type};
-ghost use Rattle.jo_prog.specs.Typing.{Int, Null, Ref};
 ghost use Rattle.jo_prog.specs.Values.{Value, int, null, ref, Info};
 ghost use Rattle.jo_text.specs.declared.descriptors.Base.TheVariants.{Byte, Short, Boolean};
 ghost use Rattle.machine.specs.Arithmetic.{int_op, narrow, kept_by};
 ghost use Rattle.machine.specs.Instructions.{Instruction, stores_element};
 ghost use Rattle.machine.specs.Execution.{Ways, Fits, raises, only, exec, cell_read};
-ghost use Rattle.machine.specs.Invocation.{Callee, fails, invoked, type_of};
+ghost use Rattle.machine.specs.Invocation.{Callee, fails, invoked};
 ghost use Rattle.machine.specs.Runs.{run};
-ghost use Rattle.machine.specs.TypedStates.{HasKind, IsTypedState};
 ghost use Rattle.machine.specs.Worked.{dividing_program, starting_program, shows_at, arrays_of_three, nothing_fits, starts_all};
 ghost use Rattle.machine.specs.Renamings.{IsRenaming, Both, RenamedValue, RenamedValues, RenamedOutcome, RenamedCell, RenamedInvoked};
 
@@ -61,19 +55,4 @@ pub fn worked_raises()
     ensures stores { map (exec arrays_of_three nothing_fits stores_element None) ((ref 0 ∷ int (pos 3) ∷ null ∷ []) ∷ (ref 0 ∷ int (pos 3) ∷ ref 1 ∷ []) ∷ (ref 0 ∷ int (pos 2) ∷ ref 1 ∷ []) ∷ []) ≡ only (raises NullBase) ∷ only (raises BadIndex) ∷ only (raises WrongElement) ∷ [] }
     ensures receivers { map (invoked (starts_all false) arrays_of_three.info (λ a. true)) ((null ∷ []) ∷ (ref 1 ∷ []) ∷ []) ≡ Some (fails NullBase) ∷ Some (fails MissingInterface) ∷ [] }
     ensures starts { invoked (starts_all true) arrays_of_three.info (λ a. true) (ref 1 ∷ []) ≡ Some (fails SecondStart) }
-{}
-
-/// A place of ints holds no reference, one of null holds none either, and one of references no int; a reference leads to an object
-/// that its place may hold.
-pub fn kinds_tell_values_apart()
-    ensures ints { (program : Program) (heap : List HeapObject) (a : ℕ) → HasKind program heap Int (ref a) → ⊥ }
-    ensures nulls { (program : Program) (heap : List HeapObject) (a : ℕ) → HasKind program heap Null (ref a) → ⊥ }
-    ensures references { (program : Program) (heap : List HeapObject) (type : TypeRef) (z : ℤ) → HasKind program heap (Ref type) (int z) → ⊥ }
-    ensures objects { (program : Program) (heap : List HeapObject) (type : TypeRef) (a : ℕ) (o : HeapObject) → HasKind program heap (Ref type) (ref a) → slice_get heap a ≡ Some o → takes_type program (type_of o.info) type ≡ true }
-{}
-
-/// The first states of the two worked programs are typed.
-pub fn first_states_are_typed()
-    ensures dividing { IsTypedState dividing_program (start dividing_program (shows_at 0 1)) }
-    ensures starting { IsTypedState starting_program (start starting_program (shows_at 1 3)) }
 {}

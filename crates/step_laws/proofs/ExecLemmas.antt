@@ -33,7 +33,7 @@ use Rattle.machine.specs.Execution.{Outcome, Effect as Done, only, pushes_one, e
 use Rattle.machine.specs.Invocation.{type_of}
 use Rattle.machine.specs.Heaps.{content, element_of, field_of, field_content}
 use Rattle.machine.specs.Steps.{ways, fits, fits_ref, element_ref, read_from}
-use Rattle.machine.specs.TypedStates.{HasKind, an_int, a_null, no_object, an_object, PlaceHasKind, unset, set, IsOnStack, Pairwise, no_more, one_more, has_dims, IsTypedObject, of_class, of_array, IsTypedState, IsFieldContent, kind_of_desc}
+use Rattle.step_laws.specs.TypedStates.{HasKind, an_int, a_null, no_object, an_object, PlaceHasKind, unset, set, IsOnStack, Pairwise, no_more, one_more, has_dims, IsTypedObject, of_class, of_array, IsTypedState, IsFieldContent, kind_of_desc}
 use Rattle.jo_ids.specs.Path.{stays}
 use Rattle.jo_prog.proofs.WalkLemmas.{none_there, head_or_behind, here, behind}
 use Rattle.jo_prog.proofs.HierarchyLemmas.{subtype_every}

@@ -18,7 +18,7 @@ use Rattle.machine.specs.Instructions.{Instruction}
 use Rattle.machine.specs.Execution as does
 use Rattle.machine.specs.Execution.{Outcome, exec, cell_read}
 use Rattle.machine.specs.Steps.{fetched, applied, apply_outcome, with_written, executed}
-use Rattle.machine.specs.TypedStates.{PlaceHasKind, unset, set, IsOnStack, Pairwise, no_more, one_more, IsReady, IsTypedState}
+use Rattle.step_laws.specs.TypedStates.{PlaceHasKind, unset, set, IsOnStack, Pairwise, no_more, one_more, IsReady, IsTypedState}
 use Rattle.step_laws.specs.Premises.{HasSoundHierarchy}
 use Rattle.step_laws.specs.Effects.{HasEffect, ArePopped, IsTaken, AreGiven, array_created, array_measured, cast, checked, created, element_loaded, element_stored, field_got, field_put, int_loaded, int_pushed, int_stepped, int_stored, jumped, nothing_done, nothing_returned, null_pushed, null_tested, one_doubled, one_doubled_under_one, one_doubled_under_two, one_dropped, one_narrowed, one_negated, one_tested, reference_loaded, reference_put, reference_stored, reference_taken, references_compared, static_got, static_put, switched, text_pushed, thrown, two_compared, two_computed, two_doubled, two_doubled_under_one, two_doubled_under_two, two_dropped, two_swapped, value_returned}
 use Rattle.step_laws.specs.Fetches.{IsGivenValues, HasStep}

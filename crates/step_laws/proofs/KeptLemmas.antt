@@ -17,7 +17,7 @@ use Rattle.jo_prog.specs.Values.{Value, Info, object, array, Cell}
 use Rattle.jo_prog.specs.Machine.{Frame, Thread, HeapObject, State}
 use Rattle.machine.specs.Invocation.{type_of}
 use Rattle.machine.specs.Heaps.{with_field, with_content, on_object, with_object, field_written, element_written}
-use Rattle.machine.specs.TypedStates.{HasKind, an_int, a_null, no_object, an_object, PlaceHasKind, unset, set, IsOnStack, Pairwise, no_more, one_more, IsReady, IsLeft, IsWaiting, AreWaiting, AreFrames, StandsAt, IsStartedAt, IsTypedThread, kind_of_desc, IsFieldContent, IsTypedObject, of_class, of_array, IsTypedState}
+use Rattle.step_laws.specs.TypedStates.{HasKind, an_int, a_null, no_object, an_object, PlaceHasKind, unset, set, IsOnStack, Pairwise, no_more, one_more, IsReady, IsLeft, IsWaiting, AreWaiting, AreFrames, StandsAt, IsStartedAt, IsTypedThread, kind_of_desc, IsFieldContent, IsTypedObject, of_class, of_array, IsTypedState}
 use Rattle.step_laws.specs.Growth.{StillStands, GrowsTo}
 use Rattle.step_laws.specs.Effects.{TakesValue, in_field, in_element, in_static}
 

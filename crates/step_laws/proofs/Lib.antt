@@ -7,3 +7,4 @@ pub mod FetchLemmas
 pub mod TableLemmas
 pub mod StepLemmas
 pub mod NewLemmas
+mod FirstStates

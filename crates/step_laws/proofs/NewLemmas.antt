@@ -25,7 +25,7 @@ use Rattle.jo_prog.specs.Values.{Value, int, null, Info, object, array}
 use Rattle.jo_prog.specs.Machine.{HeapObject, State}
 use Rattle.jo_prog.proofs.WalkLemmas.{none_there, head_or_behind, here, behind, in_flat_map}
 use Rattle.machine.specs.Heaps.{is_class_type, first_element, first_content, own_contents, first_contents, new_object, with_new}
-use Rattle.machine.specs.TypedStates.{an_int, no_object, unset, set, IsOnStack, kind_of_desc, IsFieldContent, IsTypedObject, of_class, of_array, IsTypedState}
+use Rattle.step_laws.specs.TypedStates.{an_int, no_object, unset, set, IsOnStack, kind_of_desc, IsFieldContent, IsTypedObject, of_class, of_array, IsTypedState}
 use Rattle.step_laws.specs.Growth.{GrowsTo, CanBeMade}
 use Rattle.step_laws.proofs.KeptLemmas.{state_kept, object_kept}
 

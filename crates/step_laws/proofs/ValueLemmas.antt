@@ -14,7 +14,7 @@ use Rattle.jo_prog.specs.Shapes.{Need, Anything, AnInt, AReference, OfEach, AnAr
 use Rattle.jo_prog.specs.Values.{Value, int, null, ref, Info, object, array}
 use Rattle.jo_prog.specs.Machine.{HeapObject}
 use Rattle.machine.specs.Invocation.{type_of}
-use Rattle.machine.specs.TypedStates.{HasKind, an_int, a_null, no_object, an_object, PlaceHasKind, unset, set, IsOnStack, IsTypedObject, of_class, of_array, has_dims}
+use Rattle.step_laws.specs.TypedStates.{HasKind, an_int, a_null, no_object, an_object, PlaceHasKind, unset, set, IsOnStack, IsTypedObject, of_class, of_array, has_dims}
 use Rattle.step_laws.specs.Premises.{HasSoundHierarchy, IsBelowObject}
 use Rattle.step_laws.specs.Needs.{IsArrayWith, is_reference_type, has_letter, IntMeets, ReferenceMeets, Meets, IsPlainNeed, HasDims, AreTypedObjects}
 use Rattle.step_laws.proofs.TypeLemmas.{never, takes_on, arrays_fit, by_letters, letters, is_class, object_base}

@@ -26,7 +26,7 @@ use Rattle.machine.specs.Execution as does
 use Rattle.machine.specs.Execution.{Outcome}
 use Rattle.machine.specs.Invocation.{type_of}
 use Rattle.machine.specs.Heaps.{first_contents}
-use Rattle.machine.specs.TypedStates.{IsOnStack, Pairwise, StandsAt, IsFieldContent, has_dims}
+use Rattle.step_laws.specs.TypedStates.{IsOnStack, Pairwise, StandsAt, IsFieldContent, has_dims}
 use Rattle.step_laws.specs.Needs.{has_letter}
 
 -- ---- fields

@@ -8,7 +8,7 @@ use Rattle.jo_prog.specs.Values.{Value}
 use Rattle.jo_prog.specs.Machine.{Frame, HeapObject, Stepped}
 use Rattle.machine.specs.Instructions.{Instruction}
 use Rattle.machine.specs.Steps.{fetched}
-use Rattle.machine.specs.TypedStates.{IsOnStack, Pairwise}
+use Rattle.step_laws.specs.TypedStates.{IsOnStack, Pairwise}
 use Rattle.step_laws.specs.Effects.{AreGiven}
 
 pub record IsGivenValues (program : Program) (heap : List HeapObject) (instruction : Instruction) (effect : Effect) (shape : Shape) (f : Frame) : Type 0 where

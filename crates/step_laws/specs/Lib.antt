@@ -1,3 +1,4 @@
+pub mod TypedStates
 pub mod Premises
 pub mod Needs
 pub mod Effects

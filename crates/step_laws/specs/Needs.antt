@@ -11,7 +11,7 @@ use Rattle.jo_prog.specs.Typing.{Kind, Ref}
 use Rattle.jo_prog.specs.Values.{Value, int, null, ref, Info, object, array}
 use Rattle.jo_prog.specs.Machine.{HeapObject}
 use Rattle.machine.specs.Invocation.{type_of}
-use Rattle.machine.specs.TypedStates.{IsTypedObject, has_dims}
+use Rattle.step_laws.specs.TypedStates.{IsTypedObject, has_dims}
 
 -- an object or array stands at an address, and is as is asked
 pub record StandsWith (heap : List HeapObject) (a : ℕ) (P : Info → Type 0) : Type 0 where

@@ -21,7 +21,7 @@ use Rattle.jo_prog.specs.MethodTypes.{field_desc_in}
 use Rattle.jo_prog.specs.Operations.{within}
 use Rattle.jo_prog.specs.Values.{array}
 use Rattle.machine.specs.Invocation.{type_of}
-use Rattle.machine.specs.TypedStates.{has_dims}
+use Rattle.step_laws.specs.TypedStates.{has_dims}
 use Rattle.jo_prog.specs.declared.program.Program.{Program}
 use Rattle.jo_prog.specs.Shapes.{Need, Nothing, Effect, takes_type}
 use Rattle.jo_prog.specs.InsnTyping.{result_kind_of, plain_effect}

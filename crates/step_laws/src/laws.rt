@@ -1,4 +1,4 @@
-//! Laws of typing on steps. Each function is empty: what it ensures is the law.
+//! Laws of typed states and of typing on steps. Each function is empty: what it ensures is the law.
 ghost use Rattle.std.specs.Prelude.{◌≡◌, ℕ, ℤ, true, false, List, ◌∷◌, Some, None, Ok, slice_get, FitsSigned};
 ghost use Rattle.std.specs.Int.{w32};
 ghost use Rattle.jo_text.specs.declared.descriptors.FieldDesc.{FieldDesc};
@@ -14,16 +14,18 @@ ghost use Rattle.machine.specs.Arithmetic.{int_op, negated, kept_int, narrow};
 ghost use Rattle.jo_prog.specs.declared.program.Program.{Program};
 ghost use Rattle.jo_prog.specs.declared.program.TypeRef.{TypeRef};
 ghost use Rattle.jo_prog.specs.Types.{type_fits};
-ghost use Rattle.jo_prog.specs.Typing.{Kind, Shape};
+ghost use Rattle.jo_prog.specs.Typing.{Kind, Int, Null, Ref, Shape};
 ghost use Rattle.jo_prog.specs.Shapes.{Effect, Need, need_of, passes, takes_type};
-ghost use Rattle.jo_prog.specs.Values.{Value, Info, Cell};
-ghost use Rattle.jo_prog.specs.Machine.{Frame, Thread, HeapObject, State, info_at};
+ghost use Rattle.jo_prog.specs.Values.{Value, int, ref, Info, Cell};
+ghost use Rattle.jo_prog.specs.Machine.{Frame, Thread, HeapObject, State, info_at, start};
 ghost use Rattle.jo_prog.specs.TypingPaths.{IsTypedMethod, effect_at};
 ghost use Rattle.machine.specs.Instructions.{Instruction, instruction_of};
 ghost use Rattle.machine.specs.Execution.{cell_read, exec};
 ghost use Rattle.machine.specs.Heaps.{new_object, with_new, with_content};
+ghost use Rattle.machine.specs.Invocation.{type_of};
+ghost use Rattle.machine.specs.Worked.{dividing_program, starting_program, shows_at};
 ghost use Rattle.machine.specs.Steps.{ways, fits, read_from, fetched, executed, step};
-ghost use Rattle.machine.specs.TypedStates.{HasKind, IsOnStack, IsReady, IsTypedState};
+ghost use Rattle.step_laws.specs.TypedStates.{HasKind, IsOnStack, IsReady, IsTypedState};
 ghost use Rattle.step_laws.specs.Growth.{CanBeMade};
 ghost use Rattle.step_laws.specs.Tables.{asks_nothing, is_call, IsSoundInsn, HasSoundCode, IsInstructionWith};
 ghost use Rattle.step_laws.specs.Fetches.{IsGivenValues, HasStep};
@@ -96,4 +98,19 @@ pub fn typed_threads_step()
         → HasStep (step program labels inputs s t) }
     ensures exceptions { (program : Program) (labels : Labels) (inputs : List SourceInput) (s : State) (t : ℕ) (thread : Thread) (f : Frame) (below : List Frame) (a : ℕ)
         → slice_get s.threads t ≡ Some thread → thread.pending ≡ Some a → thread.frames ≡ f ∷ below → HasStep (step program labels inputs s t) }
+{}
+
+/// A place of ints holds no reference, one of null holds none either, and one of references no int; a reference leads to an object
+/// that its place may hold.
+pub fn kinds_tell_values_apart()
+    ensures ints { (program : Program) (heap : List HeapObject) (a : ℕ) → HasKind program heap Int (ref a) → ⊥ }
+    ensures nulls { (program : Program) (heap : List HeapObject) (a : ℕ) → HasKind program heap Null (ref a) → ⊥ }
+    ensures references { (program : Program) (heap : List HeapObject) (type : TypeRef) (z : ℤ) → HasKind program heap (Ref type) (int z) → ⊥ }
+    ensures objects { (program : Program) (heap : List HeapObject) (type : TypeRef) (a : ℕ) (o : HeapObject) → HasKind program heap (Ref type) (ref a) → slice_get heap a ≡ Some o → takes_type program (type_of o.info) type ≡ true }
+{}
+
+/// The first states of the two worked programs are typed.
+pub fn first_states_are_typed()
+    ensures dividing { IsTypedState dividing_program (start dividing_program (shows_at 0 1)) }
+    ensures starting { IsTypedState starting_program (start starting_program (shows_at 1 3)) }
 {}

@@ -4,8 +4,8 @@ use Rattle.jo_prog.specs.MethodTypes.{method_desc_in, params_from}
 use Rattle.jo_prog.specs.Constants.{string_constants}
 use Rattle.jo_prog.specs.Machine.{first_heap, first_statics}
 use Rattle.machine.specs.Worked.{dividing_program, dividing_code, starting_program, starting_code, method_of}
-use Rattle.machine.proofs.FirstStates.{is_typed_first}
-use Rattle.machine.proofs.laws.first_states_are_typed.Goals as goal
+use Rattle.step_laws.proofs.FirstStates.{is_typed_first}
+use Rattle.step_laws.proofs.laws.first_states_are_typed.Goals as goal
 
 pub returns-clause-dividing : goal.returns-clause-dividing
 unfolding read_field read_base read_class letter_base method_desc_in params_from string_constants first_heap first_statics

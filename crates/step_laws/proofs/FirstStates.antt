@@ -9,7 +9,7 @@ use Rattle.jo_prog.specs.Constants.{string_address}
 use Rattle.jo_prog.specs.Typing.{Unset}
 use Rattle.jo_prog.specs.InsnTyping.{shape_at_start}
 use Rattle.jo_prog.specs.Machine.{Frame, State}
-use Rattle.machine.specs.TypedStates.{IsTypedThread, IsTypedState, unset, no_more, one_more}
+use Rattle.step_laws.specs.TypedStates.{IsTypedThread, IsTypedState, unset, no_more, one_more}
 
 no_item : {A : Type 0} (B : Type 0) (k : ℕ) (x : A) → slice_get [] k ≡ Some x → B
 no_item B k x found = absurd (differ (sym found ∙ slice_get_past [] k (omega arith)))
