@@ -7,6 +7,7 @@ use Rattle.jo_prog.specs.declared.typed.TypeCode.TheVariants.{Underflow, Overflo
 use Rattle.jo_prog.specs.declared.typed.TypeFault.{TypeFault}
 use Rattle.jo_prog.specs.TypingPaths.{Typable, Step, IsTypable, TypingPath, arrives_at, height_of, MeetsAtEnd, MeetsFault, IsLeastFault, IsTypedMethod, HasHeightAt, IsTypeFaultOf, fault_claim, number_of}
 use Rattle.jvm_typing.specs.declared.facts.Fact.{Fact}
+use Rattle.typing_heights.specs.FirstPaths.{HasFirstPaths}
 use Rattle.typing_heights.specs.Adds.{Adds}
 use Rattle.typing_heights.specs.Searches.{height_at, AreHeights}
 use Rattle.typing_heights.specs.Moves.{IsHeightFault, other_height}
@@ -127,8 +128,12 @@ pub typed_answer : (program : Program) (m : ℕ) (answer : Answer) → IsTypeAns
 typed_answer program m (Ok heights) is = is.0
 typed_answer program m (Err fault) is = tt
 
+pub first_paths_answer : (program : Program) (m : ℕ) (answer : Answer) → IsTypeAnswer program m answer → IfOk answer (λ typed. HasFirstPaths program m)
+first_paths_answer program m (Ok heights) is = is.1
+first_paths_answer program m (Err fault) is = tt
+
 pub heights_answer : (program : Program) (m : ℕ) (answer : Answer) → IsTypeAnswer program m answer → IfOk answer (λ typed. (pc h : ℕ) → (height_at typed pc ≡ Some h) ↔ HasHeightAt program m pc h)
-heights_answer program m (Ok heights) is = is.1
+heights_answer program m (Ok heights) is = is.2
 heights_answer program m (Err fault) is = tt
 
 pub fault_answer : (program : Program) (m : ℕ) (answer : Answer) → IsTypeAnswer program m answer → IfErr answer (λ fault. IsTypeFaultOf program m fault)

@@ -10,6 +10,7 @@ use Rattle.jo_prog.specs.TypingPaths.{Typable, effect_at, catches_wrong, IsTyped
 use Rattle.jvm_typing.specs.declared.facts.Fact.{Fact}
 use Rattle.jvm_typing.specs.declared.kind_faults.Asked.{Asked}
 use Rattle.typing_effects.specs.Effects.{effect_in}
+use Rattle.typing_heights.specs.FirstPaths.{HasFirstPaths}
 use Rattle.typing_heights.specs.Adds.{From, FromBelow}
 use Rattle.jvm_typing.specs.KindPasses.{Item, item_in}
 use Rattle.typing_heights.specs.Searches.{height_at}
@@ -53,7 +54,7 @@ abbrev pub IsKindFault : Program → Typable → List (Option ℕ) → List Fact
 IsKindFault program t heights facts fault = From facts (FailsBy program t) fault ⊎ FromBelow (length heights) (WrongAt program t heights) fault
 
 abbrev pub IsTypeAnswer : Program → ℕ → Result (List (Option ℕ)) TypeFault → Type 0
-IsTypeAnswer program m (Ok heights) = IsTypedMethod program m × ((pc h : ℕ) → (height_at heights pc ≡ Some h) ↔ HasHeightAt program m pc h)
+IsTypeAnswer program m (Ok heights) = IsTypedMethod program m × HasFirstPaths program m × ((pc h : ℕ) → (height_at heights pc ≡ Some h) ↔ HasHeightAt program m pc h)
 IsTypeAnswer program m (Err fault) = IsLeastFault program m fault
 
 abbrev pub IsFirstAnswer : Program → ℕ → Option TypeFault → Type 0

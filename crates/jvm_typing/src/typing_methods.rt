@@ -4,6 +4,7 @@ ghost use Rattle.hierarchy.specs.Hierarchies.{IsHierarchyOf};
 ghost use Rattle.jo_prog.specs.TypingPaths.{IsTypedMethod, IsTypeFaultOf, HasHeightAt};
 ghost use Rattle.jvm_typing.specs.KindFaults.{IsFirstAnswer, IsTypeAnswer};
 ghost use Rattle.typing_effects.specs.ClassNames.{AreNamesOf};
+ghost use Rattle.typing_heights.specs.FirstPaths.{HasFirstPaths};
 ghost use Rattle.typing_heights.specs.Searches.{height_at, AreHeights};
 ghost use Rattle.typing_heights.specs.Subjects.{program_of, typable_of, IsSubject};
 
@@ -110,6 +111,7 @@ pub(crate) fn type_named(
     requires short { length program.now.classes < 2 ^ 32 }
     requires names { AreNamesOf program.now.classes names.now }
     ensures typed { IfOk result (λ typed. IsTypedMethod program.now method) }
+    ensures first_paths { IfOk result (λ typed. HasFirstPaths program.now method) }
     ensures heights { IfOk result (λ typed. (pc h : ℕ) → (height_at typed pc ≡ Some h) ↔ HasHeightAt program.now method pc h) }
     ensures fault { IfErr result (λ fault. IsTypeFaultOf program.now method fault) }
 {
@@ -130,6 +132,7 @@ pub fn type_method(
     requires kept { IsHierarchyOf program.now hierarchy.now }
     requires short { length program.now.classes < 2 ^ 32 }
     ensures typed { IfOk result (λ typed. IsTypedMethod program.now method) }
+    ensures first_paths { IfOk result (λ typed. HasFirstPaths program.now method) }
     ensures heights { IfOk result (λ typed. (pc h : ℕ) → (height_at typed pc ≡ Some h) ↔ HasHeightAt program.now method pc h) }
     ensures fault { IfErr result (λ fault. IsTypeFaultOf program.now method fault) }
 {

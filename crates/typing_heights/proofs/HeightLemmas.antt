@@ -4,7 +4,8 @@ use Rattle.std.specs.Prelude.{◌↔◌}
 use Rattle.jo_prog.specs.declared.program.Program.{Program}
 use Rattle.jo_prog.specs.declared.program.Method.{Method}
 use Rattle.jo_prog.specs.Program.{method_at}
-use Rattle.jo_prog.specs.TypingPaths.{Typable, IsTypable, HasHeightAt}
+use Rattle.jo_prog.specs.TypingPaths.{Typable, Step, IsTypable, TypingPath, IsFirst, HasHeightAt, arrives_at}
+use Rattle.typing_heights.specs.FirstPaths.{HasFirstPaths}
 use Rattle.typing_heights.specs.Searches.{height_at, AreHeights}
 
 pub some_same : {A : Type 0} (a b : A) → Some a ≡ Some b → a ≡ b
@@ -45,4 +46,27 @@ no_code program m method found none pc h = (λ e. absurd (cc), λ has. absurd (n
     never has =
         let same : has.typable.method ≡ method = some_same has.typable.method method (sym has.is_typable.1 ∙ found) in
         let coded : method.code ≡ Some has.typable.code = ap (λ (x : Method). x.code) (sym same) ∙ has.is_typable.2 in
+        absurd (cc)
+
+-- ---- first paths
+
+first_from : (program : Program) (t : Typable) (heights : List (Option ℕ)) → AreHeights program t heights → (path : List Step) → TypingPath program t path
+    → (first : List Step) × IsFirst (TypingPath program t) (arrives_at path) first
+first_from program t heights are path is =
+    let known = are.reached path is in
+    let found = are.is_first (arrives_at path) known.0 known.1 in
+    (found.0, found.1)
+
+pub first_paths : (program : Program) (m : ℕ) (t : Typable) (heights : List (Option ℕ)) → IsTypable program m t → AreHeights program t heights → HasFirstPaths program m
+first_paths program m t heights is are = λ s of_s path is_path.
+    subst (λ (x : Typable). (p : List Step) → TypingPath program x p → (first : List Step) × IsFirst (TypingPath program x) (arrives_at p) first)
+    (one_typable program m t s is of_s) (first_from program t heights are) path is_path
+
+pub no_first_paths : (program : Program) (m : ℕ) (method : Method) → method_at program m ≡ Some method → method.code ≡ None → HasFirstPaths program m
+no_first_paths program m method found none = λ s of_s path is_path. absurd (codeless s of_s)
+  where
+    codeless : (s : Typable) → IsTypable program m s → ⊥
+    codeless s of_s =
+        let methods : s.method ≡ method = some_same s.method method (sym of_s.1 ∙ found) in
+        let e : Some s.code ≡ None = sym of_s.2 ∙ ap (λ (x : Method). x.code) methods ∙ none in
         absurd (cc)

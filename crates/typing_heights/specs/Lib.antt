@@ -1,3 +1,4 @@
+pub mod FirstPaths
 pub mod Searches
 pub mod Sizes
 pub mod Subjects

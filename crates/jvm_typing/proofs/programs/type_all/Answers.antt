@@ -2,6 +2,7 @@ use Rattle.std.proofs.Common.{rules, ◌≡◌, ◌↔◌, ◌+◌, ℕ, List, O
 use Rattle.jo_prog.specs.declared.typed.TypeCode.TheVariants.{Memory}
 use Rattle.jo_prog.specs.TypingPaths.{IsTypedMethod, HasHeightAt}
 use Rattle.jvm_typing.specs.declared.programs.MethodFault.{MethodFault}
+use Rattle.typing_heights.specs.FirstPaths.{HasFirstPaths}
 use Rattle.typing_heights.specs.Searches.{height_at}
 use Rattle.jvm_typing.specs.Typings.{AreTypings, IsFirstMethodFault}
 use Rattle.jvm_typing.proofs.FirstAnswerLemmas.{memory_is_no_claim}
@@ -17,8 +18,9 @@ loop-number-preserved c =
     let n = c.loop-number.number in
     let e : c.of-method.result ≡ n = search rules in
     let typed = subst (λ (m : ℕ). IsTypedMethod p m) e c.in-Ok.ensures.typed in
+    let firsts = subst (λ (m : ℕ). HasFirstPaths p m) e c.in-Ok.ensures.first_paths in
     let heights = subst (λ (m : ℕ). (pc h : ℕ) → (height_at c.in-Ok.typed pc ≡ Some h) ↔ HasHeightAt p m pc h) e c.in-Ok.ensures.heights in
-    subst (λ (l : List (List (Option ℕ))). AreTypings p (n + 1) l) (sym c.in-Ok-push.ensures.ok) (typings_more p n c.loop-number.typings c.in-Ok.typed c.loop-number.invariant typed heights)
+    subst (λ (l : List (List (Option ℕ))). AreTypings p (n + 1) l) (sym c.in-Ok-push.ensures.ok) (typings_more p n c.loop-number.typings c.in-Ok.typed c.loop-number.invariant typed firsts heights)
 
 pub returns-in-Err-push-clause-fault : goal.returns-in-Err-push-clause-fault
 returns-in-Err-push-clause-fault c =
