@@ -16,7 +16,7 @@ use Rattle.step_laws.proofs.KeptLemmas.{set_there, set_kept}
 same_some : {X : Type 0} {x y : X} → Some x ≡ Some y → x ≡ y
 same_some e = cc
 
-push_kept : {X : Type 0} (xs : List X) (y : X) (k : ℕ) (x : X) → slice_get xs k ≡ Some x → slice_get (xs ++ y ∷ []) k ≡ Some x
+pub push_kept : {X : Type 0} (xs : List X) (y : X) (k : ℕ) (x : X) → slice_get xs k ≡ Some x → slice_get (xs ++ y ∷ []) k ≡ Some x
 push_kept [] y k x e = absurd (cc)
 push_kept (z ∷ zs) y zero x e = e
 push_kept (z ∷ zs) y (suc k) x e = push_kept zs y k x e
@@ -40,7 +40,7 @@ pub record IsGrown (s new : State) : Type 0 where
   pub threads : new.threads ≡ s.threads
   pub grows : GrowsTo s.heap new.heap
 
-changed_grows : (heap : List HeapObject) (a : ℕ) (o o' : HeapObject) → slice_get heap a ≡ Some o → o'.info ≡ o.info → (o.started ≡ true → o'.started ≡ true) → GrowsTo heap (slice_set heap a o')
+pub changed_grows : (heap : List HeapObject) (a : ℕ) (o o' : HeapObject) → slice_get heap a ≡ Some o → o'.info ≡ o.info → (o.started ≡ true → o'.started ≡ true) → GrowsTo heap (slice_set heap a o')
 changed_grows heap a o o' is info started = record { keeps = λ b p at. by_place b p at (cases_eq b a) }
   where
     by_place : (b : ℕ) (p : HeapObject) → slice_get heap b ≡ Some p → (b ≡ a) ⊎ (b ≡ a → ⊥) → StillStands (slice_set heap a o') b p

@@ -85,16 +85,16 @@ module _ (program : Program) (sound : HasSoundHierarchy program) (raised : HasRa
   ready_after heap to leads locals stack of_locals of_stack = record { shape = after program effect ready.shape; has_shape = shape_after to leads locals stack; locals = of_locals; stack = of_stack }
 
   module _ (new : State) (kept : IsTypedState program new) (grown : IsGrown s new) where
-    there : slice_get new.threads t ≡ Some thread
+    pub there : slice_get new.threads t ≡ Some thread
     there = ap (λ (threads : List Thread). slice_get threads t) grown.threads ∙ at
 
-    waiting_there : AreWaiting program new.heap f.method below
+    pub waiting_there : AreWaiting program new.heap f.method below
     waiting_there = all_waiting_kept program s.heap new.heap grown.grows f.method below waiting
 
-    same_locals : Pairwise (PlaceHasKind program new.heap) ready.shape.locals f.locals
+    pub same_locals : Pairwise (PlaceHasKind program new.heap) ready.shape.locals f.locals
     same_locals = pairwise_map (PlaceHasKind program s.heap) (PlaceHasKind program new.heap) (place_kept program s.heap new.heap grown.grows) ready.shape.locals f.locals ready.locals
 
-    rest_there : (kinds : List Kind) (rest : List (Value ℕ)) → Pairwise (IsOnStack program s.heap) kinds rest → Pairwise (IsOnStack program new.heap) kinds rest
+    pub rest_there : (kinds : List Kind) (rest : List (Value ℕ)) → Pairwise (IsOnStack program s.heap) kinds rest → Pairwise (IsOnStack program new.heap) kinds rest
     rest_there kinds rest h = pairwise_map (IsOnStack program s.heap) (IsOnStack program new.heap) (stack_kept program s.heap new.heap grown.grows) kinds rest h
 
     -- the frame goes on with values on its stack
@@ -111,7 +111,7 @@ module _ (program : Program) (sound : HasSoundHierarchy program) (raised : HasRa
         (λ a none. absurd (cc))
 
     -- an exception is on its way
-    is_left : (a : ℕ) → StandsAt program new.heap a throwable → IsTypedState program (with_frames new t (f ∷ below) (Some a))
+    pub is_left : (a : ℕ) → StandsAt program new.heap a throwable → IsTypedState program (with_frames new t (f ∷ below) (Some a))
     is_left a thrown = frames_set program new kept t thread there (f ∷ below) (Some a)
         (record { shape = ready.shape; has_shape = ready.has_shape; locals = same_locals }, waiting_there)
         (λ b same. subst (λ (x : ℕ). StandsAt program new.heap x throwable) (same_some same) thrown)
@@ -160,7 +160,7 @@ module _ (program : Program) (sound : HasSoundHierarchy program) (raised : HasRa
         record {
           next = _;
           is_next = refl;
-          typed = is_left (with_new s new) (new_kept program s state (object c) (is.class, is.is_there)) (new_grown s new) (new_address s)
+          typed = is_left (with_new s new) (new_kept program s state (object c) (is.class, is.is_there, is.made)) (new_grown s new) (new_address s)
               (record { found = new; is_there = pushed_there s.heap new; fits = is.is_throwable });
         }
     by_outcome outcome away (by_throw a thrown) = record { next = _; is_next = refl; typed = is_left s state (not_grown s) a thrown }

@@ -5,3 +5,12 @@ pub mod OutcomeLemmas
 pub mod GrowthLemmas
 pub mod KeepLemmas
 pub mod GoingLemmas
+pub mod StandLemmas
+pub mod TopLemmas
+pub mod MemberLemmas
+pub mod CallLemmas
+pub mod ReturnLemmas
+pub mod InvokeLemmas
+pub mod TakenLemmas
+pub mod CalledLemmas
+pub mod WholeLemmas

@@ -12,6 +12,7 @@ use Rattle.jo_prog.specs.InsnTyping.{throwable}
 use Rattle.jo_prog.specs.TypingPaths.{successors_at}
 use Rattle.machine.specs.Instructions as code
 use Rattle.machine.specs.Instructions.{Instruction}
+use Rattle.step_laws.specs.TypedStates.{has_objects}
 use Rattle.step_laws.specs.Effects.{JumpsTo}
 
 -- a jump without a test, a switch, a return or a throw, which never goes on behind itself
@@ -28,15 +29,20 @@ is_return (code.returns_value type) = true
 is_return code.returns_nothing = true
 is_return _ = false
 
+abbrev pub is_calling : Instruction → Bool
+is_calling (code.calls op owner named count) = true
+is_calling _ = false
+
 -- where an instruction with a pc behind it may go on is where typing's paths do
 pub record LeadsOn (code : Code) (pc next : ℕ) (instruction : Instruction) : Type 0 where
   pub behind : goes_elsewhere instruction ≡ false → Contains (successors_at code pc) (pos next)
   pub jumps : (target : ℕ) → JumpsTo instruction target → Contains (successors_at code pc) (pos target)
 
--- what the machine raises is a class of the program below java/lang/Throwable
+-- what the machine raises is a class of the program that may have objects, below java/lang/Throwable
 pub record IsRaisedClass (program : Program) (c : ℕ) : Type 0 where
   pub class : Class
   pub is_there : class_at program c ≡ Some class
+  pub made : has_objects class ≡ true
   pub is_throwable : type_fits program (OfClass c) throwable ≡ true
 
 abbrev pub HasRaisedClasses : Program → Type 0

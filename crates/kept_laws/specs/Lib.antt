@@ -1,3 +1,5 @@
 pub mod Paths
 pub mod Kept
 pub mod Going
+pub mod Premises
+pub mod Calls

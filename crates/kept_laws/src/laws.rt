@@ -1,22 +1,27 @@
 //! Laws of steps that keep states typed. Each function is empty: what it ensures is the law.
-ghost use Rattle.std.specs.Prelude.{◌≡◌, ℕ, false, List, ◌∷◌, Option, Some, slice_get};
+ghost use Rattle.std.specs.Prelude.{◌≡◌, ℕ, false, List, ◌∷◌, Contains, true, Option, Some, None, slice_get};
 ghost use Rattle.jo_prog.specs.declared.labels.Labels.{Labels};
 ghost use Rattle.jo_insn.specs.declared.jumps.Placed.{Placed};
 ghost use Rattle.jo_prog.specs.declared.program.Code.{Code};
 ghost use Rattle.jo_prog.specs.InsnTyping.{insn_at};
 ghost use Rattle.jo_prog.specs.declared.program.Program.{Program};
 ghost use Rattle.jo_prog.specs.declared.runs.SourceInput.{SourceInput};
+ghost use Rattle.jo_prog.specs.Program.{code_at};
 ghost use Rattle.jo_prog.specs.Machine.{Frame, Thread, State};
 ghost use Rattle.jo_prog.specs.TypingPaths.{Typable, Step, IsTypable, IsTypedMethod, TypingPath, TakesStep, arrives_at};
 ghost use Rattle.jo_prog.specs.TypingPaths.{effect_at, leads_outside, successors_at};
-ghost use Rattle.machine.specs.Instructions.{Instruction, instruction_of};
+ghost use Rattle.machine.specs.Instructions.{Instruction, calls, instruction_of, instruction_at};
 ghost use Rattle.machine.specs.Steps.{fetched, executed, step};
 ghost use Rattle.step_laws.specs.TypedStates.{IsReady, AreWaiting, IsTypedState};
 ghost use Rattle.step_laws.specs.Premises.{HasSoundHierarchy};
 ghost use Rattle.step_laws.specs.Effects.{HasEffect};
-ghost use Rattle.kept_laws.specs.Going.{is_return, LeadsOn, HasRaisedClasses};
-ghost use Rattle.kept_laws.specs.Paths.{HasFirstPaths, prolonged_by};
+ghost use Rattle.step_laws.specs.Tables.{HasSoundCode};
+ghost use Rattle.kept_laws.specs.Going.{is_return, is_calling, LeadsOn, HasRaisedClasses};
+ghost use Rattle.kept_laws.specs.Paths.{HasFirstPaths, AreAllTyped, prolonged_by};
 ghost use Rattle.kept_laws.specs.Kept.{HasTypedStep};
+ghost use Rattle.kept_laws.specs.Premises.{HasPremises};
+ghost use Rattle.jo_prog.specs.declared.program.TypeRef.{TypeRef};
+ghost use Rattle.machine.specs.Runs.{enabled};
 
 /// In a typed method each step that the code may take from the end of a typing path prolongs it.
 pub fn typing_paths_go_on()
@@ -43,4 +48,38 @@ pub fn executed_instructions_keep_typing()
 pub fn instructions_lead_on()
     ensures { (program : Program) (m : ℕ) (code : Code) (placed : Placed) → insn_at code placed.pc ≡ Some placed → leads_outside code (successors_at code placed.pc) ≡ false
         → (instruction : Instruction) → instruction_of program m code.bytes placed.pc placed.insn ≡ Some instruction → LeadsOn code placed.pc placed.next instruction }
+{}
+
+/// A thread without an exception on its way, whose top frame stands at an instruction that is no call and no return, has a next step,
+/// which leaves the state typed.
+pub fn instructions_keep_typing()
+    ensures { (program : Program) (labels : Labels) (inputs : List SourceInput) → HasSoundHierarchy program → HasRaisedClasses program → (s : State) → IsTypedState program s
+        → (t : ℕ) (thread : Thread) (f : Frame) (below : List Frame) → slice_get s.threads t ≡ Some thread → thread.pending ≡ None → thread.frames ≡ f ∷ below
+        → IsTypedMethod program f.method → HasFirstPaths program f.method → ((code : Code) → code_at program f.method ≡ Some code → HasSoundCode program f.method code)
+        → (instruction : Instruction) (next : ℕ) → instruction_at program f.method f.pc ≡ Some (instruction, next) → is_calling instruction ≡ false → is_return instruction ≡ false
+        → HasTypedStep program (step program labels inputs s t) }
+{}
+
+/// The same at a return: the frame below goes on behind its call with the result, and where there is none the thread ends.
+pub fn returns_keep_typing()
+    ensures { (program : Program) (labels : Labels) (inputs : List SourceInput) → HasSoundHierarchy program → AreAllTyped program → (s : State) → IsTypedState program s
+        → (t : ℕ) (thread : Thread) (f : Frame) (below : List Frame) → slice_get s.threads t ≡ Some thread → thread.pending ≡ None → thread.frames ≡ f ∷ below
+        → ((code : Code) → code_at program f.method ≡ Some code → HasSoundCode program f.method code)
+        → (instruction : Instruction) (next : ℕ) → instruction_at program f.method f.pc ≡ Some (instruction, next) → is_return instruction ≡ true
+        → HasTypedStep program (step program labels inputs s t) }
+{}
+
+/// The same at a call: of a method with code, which begins with its values while the frame waits; of a source, a sink or a release;
+/// of `start` and `join`; and where the machine raises, as on a null receiver.
+pub fn calls_keep_typing()
+    ensures { (program : Program) (labels : Labels) (inputs : List SourceInput) → HasPremises program labels inputs → (s : State) → IsTypedState program s
+        → (t : ℕ) (thread : Thread) (f : Frame) (below : List Frame) → slice_get s.threads t ≡ Some thread → thread.pending ≡ None → thread.frames ≡ f ∷ below
+        → (op : ℕ) (owner : TypeRef) (named count next : ℕ) → instruction_at program f.method f.pc ≡ Some (calls op owner named count, next)
+        → HasTypedStep program (step program labels inputs s t) }
+{}
+
+/// No typed step is stuck: in a typed state every thread that may step has a next state, which is typed.
+pub fn typed_steps_go_on()
+    ensures { (program : Program) (labels : Labels) (inputs : List SourceInput) → HasPremises program labels inputs → (s : State) → IsTypedState program s
+        → (t : ℕ) → Contains (enabled program labels s) t → HasTypedStep program (step program labels inputs s t) }
 {}

@@ -33,7 +33,7 @@ use Rattle.machine.specs.Execution.{Outcome, Effect as Done, only, pushes_one, e
 use Rattle.machine.specs.Invocation.{type_of}
 use Rattle.machine.specs.Heaps.{content, element_of, field_of, field_content}
 use Rattle.machine.specs.Steps.{ways, fits, fits_ref, element_ref, read_from}
-use Rattle.step_laws.specs.TypedStates.{HasKind, an_int, a_null, no_object, an_object, PlaceHasKind, unset, set, IsOnStack, Pairwise, no_more, one_more, has_dims, IsTypedObject, of_class, of_array, IsTypedState, IsFieldContent, kind_of_desc}
+use Rattle.step_laws.specs.TypedStates.{HasKind, an_int, a_null, no_object, an_object, PlaceHasKind, unset, set, IsOnStack, Pairwise, no_more, one_more, has_dims, has_objects, IsTypedObject, of_class, of_array, IsTypedState, IsFieldContent, kind_of_desc}
 use Rattle.jo_ids.specs.Path.{stays}
 use Rattle.jo_prog.proofs.WalkLemmas.{none_there, head_or_behind, here, behind}
 use Rattle.jo_prog.proofs.HierarchyLemmas.{subtype_every}
@@ -362,7 +362,7 @@ module _ (program : Program) (sound : HasSoundHierarchy program) (s : State) (ty
   base_dims Boolean = tt
   base_dims (OfName name) = class_dims (class_named program name)
 
-  kind_dims : (type : FieldDesc) → HasDims (kind_of_type program type)
+  pub kind_dims : (type : FieldDesc) → HasDims (kind_of_type program type)
   kind_dims type = by_dims (type.dims == 0) refl
     where
       by_dims : (b : Bool) → (type.dims == 0) ≡ b → HasDims (if b then base_kind program type.base else Ref (OfArray type))
@@ -374,7 +374,7 @@ module _ (program : Program) (sound : HasSoundHierarchy program) (s : State) (ty
           by_number (suc n) ne = omega arith
 
   -- what is passed on as a value of a type is kept as one
-  need_plain : (kind : Kind) → IsPlainNeed (need_of kind)
+  pub need_plain : (kind : Kind) → IsPlainNeed (need_of kind)
   need_plain Int = tt
   need_plain Null = tt
   need_plain (Ref type) = tt
@@ -406,7 +406,7 @@ module _ (program : Program) (sound : HasSoundHierarchy program) (s : State) (ty
     where
       by_object : (o : HeapObject) → slice_get s.heap a ≡ Some o → o.info ≡ array type count → IsTypedObject program s.heap o
           → (v : Value ℕ) × (element_of (slice_get s.heap a) n ≡ Some v) × IsOnStack program s.heap (kind_of_type program type) v
-      by_object o is info (of_class _ c class isc found fields contents) = absurd (no_class c count type (sym isc ∙ info))
+      by_object o is info (of_class _ c class isc found made fields contents) = absurd (no_class c count type (sym isc ∙ info))
       by_object o is info (of_array _ own size iso long fitting elements) =
           let same : array own size ≡ array type count = sym iso ∙ info in
           let types : own ≡ type = ap (type_within type) same in
@@ -497,7 +497,7 @@ module _ (program : Program) (sound : HasSoundHierarchy program) (s : State) (ty
       by_info kinds o h (array type count) same is = one_int code.measures (pushes_int (AnArray ∷ [])) (at ls kinds) (pos count) refl refl (by_object o same h)
         where
           by_object : (o : HeapObject) → o.info ≡ array type count → IsTypedObject program s.heap o → FitsSigned w32 (pos count)
-          by_object o info (of_class _ c class isc found fields contents) = absurd (no_class c count type (sym isc ∙ info))
+          by_object o info (of_class _ c class isc found made fields contents) = absurd (no_class c count type (sym isc ∙ info))
           by_object o info (of_array _ own size iso long fitting elements) = subst (λ (n : ℕ). FitsSigned w32 (pos n)) (ap count_within (sym iso ∙ info)) fitting
 
   -- ---- elements that are references
@@ -748,11 +748,11 @@ module _ (program : Program) (sound : HasSoundHierarchy program) (s : State) (ty
       by_sign kinds z f false e = goes (code.creates_array type) (makes (AnInt ∷ []) (type_of (array type 0))) (at ls kinds) (does.allocates (array type (unsigned_abs z)))
           (by_new (array type (unsigned_abs z)) (type_of (array type 0)) refl refl (lt-ltb 0 (type.dims + 1) (omega arith)) (same, length_fits z f e))
 
-  made_go : (c : ℕ) (class : Class) → class_at program c ≡ Some class → (ls kinds : List Kind) (vs : List (Value ℕ)) → ArePopped program s.heap [] kinds vs → Does (code.creates c) (makes [] (OfClass c)) ls kinds vs
-  made_go c class found ls = pop_none (Does (code.creates c) (makes [] (OfClass c)) ls) (λ kinds.
+  made_go : (c : ℕ) (class : Class) → class_at program c ≡ Some class → has_objects class ≡ true → (ls kinds : List Kind) (vs : List (Value ℕ)) → ArePopped program s.heap [] kinds vs → Does (code.creates c) (makes [] (OfClass c)) ls kinds vs
+  made_go c class found made ls = pop_none (Does (code.creates c) (makes [] (OfClass c)) ls) (λ kinds.
       goes (code.creates c) (makes [] (OfClass c)) (at ls kinds) (does.allocates (object c))
       (by_new (object c) (OfClass c) refl refl refl
-      ((class, found), or_right (is_interface program (OfClass c)) (type_fits program (OfClass c) (OfClass c)) (subtype_every program sound.no_cycle c c (stays c)))))
+      ((class, found, made), or_right (is_interface program (OfClass c)) (type_fits program (OfClass c) (OfClass c)) (subtype_every program sound.no_cycle c c (stays c)))))
 
   -- ---- fields
 
@@ -797,7 +797,7 @@ module _ (program : Program) (sound : HasSoundHierarchy program) (s : State) (ty
 
     content_read : (a : ℕ) (o : HeapObject) → slice_get s.heap a ≡ Some o → fits_each program (type_of o.info) (owner ∷ []) ≡ true → IsTypedObject program s.heap o
         → (v : Value ℕ) × (content s (field a f) ≡ Some v) × IsOnStack program s.heap (kind_of_type program type) v
-    content_read a o is fit (of_class _ c class isc found names contents) =
+    content_read a o is fit (of_class _ c class isc found made names contents) =
         let takes : takes_type program (OfClass c) owner ≡ true = subst (λ (info : Info). takes_type program (type_of info) owner ≡ true) isc (class_takes o fit) in
         let there = field_there o.fields f (subst (λ (fields : List ℕ). Contains fields f) (sym names) (holds.objects c class found takes)) in
         (there.1, ap (λ (x : Option HeapObject). field_of x f) is ∙ there.3, typed_content f type has there.1 (contents there.0 (f, there.1) there.2))
@@ -814,7 +814,7 @@ module _ (program : Program) (sound : HasSoundHierarchy program) (s : State) (ty
         (one (code.gets_field f) (field_gets type owner) (at ls (x ∷ kinds)) (Always (kind_of_type program type)) found.0 refl refl found.2)))
 
     class_there : (a : ℕ) (o : HeapObject) → slice_get s.heap a ≡ Some o → fits_each program (type_of o.info) (owner ∷ []) ≡ true → IsTypedObject program s.heap o → (c : ℕ) × (o.info ≡ object c)
-    class_there a o is fit (of_class _ c class isc found names contents) = (c, isc)
+    class_there a o is fit (of_class _ c class isc found made names contents) = (c, isc)
     class_there a o is fit (of_array _ own size iso long fitting elements) =
         absurd (holds.no_array (record { dims = own.dims + 1; base = own.base }) (subst (λ (info : Info). takes_type program (type_of info) owner ≡ true) iso (class_takes o fit)))
 
@@ -911,7 +911,7 @@ module _ (program : Program) (sound : HasSoundHierarchy program) (s : State) (ty
     instructions_go i e (static_put f type is) shape vs given = static_puts_go f type is shape.locals shape.stack vs given
     instructions_go i e (field_got f type owner has holds) shape vs given = field_gets_go f type owner has holds shape.locals shape.stack vs given
     instructions_go i e (field_put f type owner has holds) shape vs given = field_puts_go f type owner has holds shape.locals shape.stack vs given
-    instructions_go i e (created c class found) shape vs given = made_go c class found shape.locals shape.stack vs given
+    instructions_go i e (created c class found made) shape vs given = made_go c class found made shape.locals shape.stack vs given
     instructions_go i e (array_created type same) shape vs given = made_array_go type same shape.locals shape.stack vs given
     instructions_go i e array_measured shape vs given = measure_go shape.locals shape.stack vs given
     instructions_go i e thrown shape vs given = throw_go shape.locals shape.stack vs given

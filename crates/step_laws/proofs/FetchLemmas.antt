@@ -70,7 +70,7 @@ fetches program i e (static_got g type is) = by_stack (λ f. refl) refl
 fetches program i e (static_put g type is) = by_stack (λ f. refl) refl
 fetches program i e (field_got g type owner has holds) = by_stack (λ f. refl) refl
 fetches program i e (field_put g type owner has holds) = by_stack (λ f. refl) refl
-fetches program i e (created c class found) = by_stack (λ f. refl) refl
+fetches program i e (created c class found made) = by_stack (λ f. refl) refl
 fetches program i e (array_created type same) = by_stack (λ f. refl) refl
 fetches program i e array_measured = by_stack (λ f. refl) refl
 fetches program i e thrown = by_stack (λ f. refl) refl
@@ -79,14 +79,14 @@ fetches program i e (checked type) = by_stack (λ f. refl) refl
 
 -- ---- values on the stack
 
-popped_is : (n : ℕ) (xs : List (Value ℕ)) → n ≤ length xs → popped n xs ≡ Some (take n xs, drop n xs)
+pub popped_is : (n : ℕ) (xs : List (Value ℕ)) → n ≤ length xs → popped n xs ≡ Some (take n xs, drop n xs)
 popped_is n xs h = cond-true (nat_le n (length xs)) (Some (take n xs, drop n xs)) None (le-leb n (length xs) h)
 
-pairwise_length : {A B : Type 0} (P : A → B → Type 0) (xs : List A) (ys : List B) → Pairwise P xs ys → length xs ≡ length ys
+pub pairwise_length : {A B : Type 0} (P : A → B → Type 0) (xs : List A) (ys : List B) → Pairwise P xs ys → length xs ≡ length ys
 pairwise_length P xs ys no_more = refl
 pairwise_length P xs ys (one_more x y more others h rest) = ap suc (pairwise_length P more others rest)
 
-pairwise_drop : {A B : Type 0} (P : A → B → Type 0) (n : ℕ) (xs : List A) (ys : List B) → Pairwise P xs ys → Pairwise P (drop n xs) (drop n ys)
+pub pairwise_drop : {A B : Type 0} (P : A → B → Type 0) (n : ℕ) (xs : List A) (ys : List B) → Pairwise P xs ys → Pairwise P (drop n xs) (drop n ys)
 pairwise_drop P zero xs ys h = h
 pairwise_drop P (suc n) xs ys no_more = no_more
 pairwise_drop P (suc n) xs ys (one_more x y more others h rest) = pairwise_drop P n more others rest
@@ -106,7 +106,7 @@ pairwise_at P xs ys (suc k) (one_more x y more others h rest) inside =
     let there = pairwise_at P more others k rest (omega arith) in
     record { one = there.one; other = there.other; is_one = there.is_one; is_other = there.is_other; related = there.related }
 
-popped_given : (program : Program) (heap : List HeapObject) (needs : List Need) (kinds : List Kind) (vs : List (Value ℕ)) → all_pass program needs kinds ≡ true
+pub popped_given : (program : Program) (heap : List HeapObject) (needs : List Need) (kinds : List Kind) (vs : List (Value ℕ)) → all_pass program needs kinds ≡ true
     → length needs ≤ length kinds → Pairwise (IsOnStack program heap) kinds vs → ArePopped program heap needs kinds (take (length needs) vs)
 popped_given program heap [] kinds vs pass enough h = tt
 popped_given program heap (need ∷ needs) kinds vs pass enough no_more = absurd (omega arith)

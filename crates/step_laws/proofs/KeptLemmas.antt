@@ -129,7 +129,7 @@ module _ (program : Program) (old new : List HeapObject) (grows : GrowsTo old ne
   content_kept content h = record { field = h.field; is_field = h.is_field; fits = stack_kept (kind_of_desc program (field_desc_in h.field.desc)) content.1 h.fits }
 
   pub object_kept : (o : HeapObject) → IsTypedObject program old o → IsTypedObject program new o
-  object_kept o (of_class _ c class is found names contents) = of_class o c class is found names (λ k content at. content_kept content (contents k content at))
+  object_kept o (of_class _ c class is found made names contents) = of_class o c class is found made names (λ k content at. content_kept content (contents k content at))
   object_kept o (of_array _ type count is long fits elements) =
       of_array o type count is long fits (λ k v at. stack_kept (kind_of_type program type) v (elements k v at))
 
@@ -217,8 +217,8 @@ type_within other (array type count) = type
 
 field_typed : (program : Program) (heap : List HeapObject) (o : HeapObject) (c f : ℕ) (v : Value ℕ) → o.info ≡ object c → IsFieldContent program heap (f, v) → IsTypedObject program heap o
     → IsTypedObject program heap (field_written o f v)
-field_typed program heap o c f v is content (of_class _ own class info found names contents) =
-    of_class (field_written o f v) own class info found (same_names o.fields f v ∙ names) (λ k other at. elim (field_read o.fields f v k other at) [
+field_typed program heap o c f v is content (of_class _ own class info found made names contents) =
+    of_class (field_written o f v) own class info found made (same_names o.fields f v ∙ names) (λ k other at. elim (field_read o.fields f v k other at) [
       | inl same ↦ subst (IsFieldContent program heap) (sym same) content
       | inr before ↦ contents k other before
     ])
@@ -226,7 +226,7 @@ field_typed program heap o c f v is content (of_array _ type count info long fit
 
 element_typed : (program : Program) (heap : List HeapObject) (o : HeapObject) (type : FieldDesc) (count i : ℕ) (v : Value ℕ) → o.info ≡ array type count
     → IsOnStack program heap (kind_of_type program type) v → IsTypedObject program heap o → IsTypedObject program heap (element_written o i v)
-element_typed program heap o type count i v is holds (of_class _ c class info found names contents) = absurd (no_class c count type (sym info ∙ is))
+element_typed program heap o type count i v is holds (of_class _ c class info found made names contents) = absurd (no_class c count type (sym info ∙ is))
 element_typed program heap o type count i v is holds (of_array _ own size info long fits elements) =
     of_array (element_written o i v) own size info (length-set o.elements i v ∙ long) fits (λ k w at. elim (set_read o.elements i k w v at) [
       | inl both ↦

@@ -49,7 +49,7 @@ push_kept [] y k x e = absurd (cc)
 push_kept (z ∷ zs) y zero x e = e
 push_kept (z ∷ zs) y (suc k) x e = push_kept zs y k x e
 
-push_read : {X : Type 0} (xs : List X) (y : X) (k : ℕ) (x : X) → slice_get (xs ++ y ∷ []) k ≡ Some x → (y ≡ x) ⊎ (slice_get xs k ≡ Some x)
+pub push_read : {X : Type 0} (xs : List X) (y : X) (k : ℕ) (x : X) → slice_get (xs ++ y ∷ []) k ≡ Some x → (y ≡ x) ⊎ (slice_get xs k ≡ Some x)
 push_read [] y zero x e = inl (same_some e)
 push_read [] y (suc k) x e = absurd (cc)
 push_read (z ∷ zs) y zero x e = inr e
@@ -139,7 +139,7 @@ module _ (program : Program) (heap : List HeapObject) where
 
   pub new_typed : (info : Info) → CanBeMade program info → IsTypedObject program heap (new_object program info)
   new_typed (object c) can =
-      of_class (new_object program (object c)) c can.0 refl can.1 refl (λ k content at. contents_first c content (contains_at (first_contents program c) k content at))
+      of_class (new_object program (object c)) c can.0 refl can.1 can.2 refl (λ k content at. contents_first c content (contains_at (first_contents program c) k content at))
   new_typed (array type count) can =
       of_array (new_object program (array type count)) type count refl (length-replicate count (first_element type)) can
       (λ k v at. subst (λ (x : Value ℕ). IsOnStack program heap (kind_of_type program type) x) (replicated count (first_element type) k v at) (element_holds type))

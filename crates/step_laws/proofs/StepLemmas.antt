@@ -36,7 +36,7 @@ use Rattle.step_laws.proofs.TableLemmas.{insn_effects}
 
 -- ---- an instruction that is no call is executed
 
-no_call : (program : Program) (labels : Labels) (inputs : List SourceInput) (s : State) (t : ℕ) (f : Frame) (below : List Frame) (next : ℕ) (i : Instruction) (e : Effect) → HasEffect program i e
+pub no_call : (program : Program) (labels : Labels) (inputs : List SourceInput) (s : State) (t : ℕ) (f : Frame) (below : List Frame) (next : ℕ) (i : Instruction) (e : Effect) → HasEffect program i e
     → step_at program labels inputs s t f below (Some (i, next)) ≡ executed program s t f below next i (fetched i f)
 no_call program labels inputs s t f below next i e nothing_done = refl
 no_call program labels inputs s t f below next i e null_pushed = refl
@@ -75,7 +75,7 @@ no_call program labels inputs s t f below next i e (static_got g type is) = refl
 no_call program labels inputs s t f below next i e (static_put g type is) = refl
 no_call program labels inputs s t f below next i e (field_got g type owner has holds) = refl
 no_call program labels inputs s t f below next i e (field_put g type owner has holds) = refl
-no_call program labels inputs s t f below next i e (created c class found) = refl
+no_call program labels inputs s t f below next i e (created c class found made) = refl
 no_call program labels inputs s t f below next i e (array_created type same) = refl
 no_call program labels inputs s t f below next i e array_measured = refl
 no_call program labels inputs s t f below next i e thrown = refl
@@ -98,7 +98,7 @@ nothing_passes program Nothing (Ref (OfClass c)) p = never p
 nothing_passes program Nothing (Ref (OfArray desc)) p = never p
 nothing_passes program Nothing Unset p = never p
 
-asks_some : (program : Program) (needs : List Need) (kinds : List Kind) → all_pass program needs kinds ≡ true → length needs ≤ length kinds → asks_nothing needs ≡ false
+pub asks_some : (program : Program) (needs : List Need) (kinds : List Kind) → all_pass program needs kinds ≡ true → length needs ≤ length kinds → asks_nothing needs ≡ false
 asks_some program [] kinds p enough = refl
 asks_some program (need ∷ needs) [] p enough = absurd (omega arith)
 asks_some program (need ∷ needs) (kind ∷ kinds) p enough =
@@ -159,7 +159,7 @@ module _ (program : Program) (labels : Labels) (inputs : List SourceInput) (soun
       let some : asks_nothing (effect_of program f.method shown.typable.method insn).pops ≡ false =
       subst (λ (e : Effect). asks_nothing e.pops ≡ false) effect_is
       (asks_some program (effect_at program shown.typable f.pc).pops ready.shape.stack (all_right program s.heap f typed ready) (pops_there program s.heap f typed ready)) in
-      let known = insn_effects program f.method shown.typable.method shown.is_typable.1 code.bytes f.pc insn read.1 read.3 (right.operands f.pc next insn there.3) (no_call_there insn next there.3) wrong some in
+      let known = insn_effects program f.method shown.typable.method shown.is_typable.1 code.bytes f.pc insn read.1 read.3 (right.operands f.pc next insn (record { typable = shown.typable; is_typable = shown.is_typable; path = shown.path; is_path = shown.is_path; arrives = shown.arrives }) there.3) (no_call_there insn next there.3) wrong some in
       let has : HasEffect program known.instruction (effect_at program shown.typable f.pc) = subst (HasEffect program known.instruction) (sym effect_is) known.has in
       let at_first : instruction_in program f.method (Some code) f.pc ≡ with_next program f.method code.bytes f.pc (Ok (insn, next)) =
       cond-true (nat_lt (length code.bytes) (2 ^ 16)) (with_next program f.method code.bytes f.pc (decoded code.bytes f.pc)) None there.2

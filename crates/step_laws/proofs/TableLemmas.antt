@@ -33,6 +33,7 @@ use Rattle.machine.specs.Instructions as code
 use Rattle.machine.specs.Instructions.{Instruction, plain_instruction, local_instruction, jump_instruction, pc_behind, kind_type, class_name, element_type, names_type, names_field, names_method, field_instruction, pooled_instruction, method_desc, instruction_of}
 use Rattle.jo_prog.specs.Values.{array}
 use Rattle.machine.specs.Invocation.{type_of}
+use Rattle.step_laws.specs.TypedStates.{has_objects}
 use Rattle.step_laws.specs.Effects.{HasEffect, AreIntLetters, int_stepped, one_tested, two_compared, references_compared, null_tested, jumped, static_got, static_put, field_got, field_put, created, array_created, cast, checked, nothing_done, null_pushed, int_pushed, int_loaded, reference_loaded, int_stored, reference_stored, element_loaded, reference_taken, element_stored, reference_put, one_dropped, two_dropped, one_doubled, one_doubled_under_one, one_doubled_under_two, two_doubled, two_doubled_under_one, two_doubled_under_two, two_swapped, two_computed, one_negated, one_narrowed, value_returned, nothing_returned, array_measured, thrown}
 use Rattle.step_laws.specs.Tables.{asks_nothing, HasPlainEffect, IsInstructionWith, IsSoundType, IsSoundField, IsSoundOperand, IsSoundInsn, is_call}
 use Rattle.step_laws.specs.Effects
@@ -557,9 +558,9 @@ module _ (program : Program) where
       let more : desc.dims + 1 ≡ suc desc.dims = omega arith in
       subst (λ (n : ℕ). HasEffect program (code.creates_array desc) (makes (AnInt ∷ []) (OfArray (array_of n desc.base)))) more (array_created desc self)
 
-  made_effect : (type : TypeRef) → (c : ℕ) × (class : Class) × (type ≡ OfClass c) × (class_at program c ≡ Some class) → IsInstructionWith program (names_type program 187 type) (makes [] type)
+  made_effect : (type : TypeRef) → (c : ℕ) × (class : Class) × (type ≡ OfClass c) × (class_at program c ≡ Some class) × (has_objects class ≡ true) → IsInstructionWith program (names_type program 187 type) (makes [] type)
   made_effect type there = subst (λ (t : TypeRef). IsInstructionWith program (names_type program 187 t) (makes [] t)) (sym there.2)
-      (record { instruction = code.creates there.0; is = refl; has = created there.0 there.1 there.3 })
+      (record { instruction = code.creates there.0; is = refl; has = created there.0 there.1 there.3 there.4 })
 
   type_effects : (op : ℕ) (type : TypeRef) → IsSoundType program op type → (type_effect program op type).wrong ≡ false → IsInstructionWith program (names_type program op type) (type_effect program op type)
   type_effects op type sound wrong = elim (cases_eq op 187) [
@@ -596,11 +597,11 @@ module _ (program : Program) where
       → IsInstructionWith program (pooled_instruction program op operand) (pooled_effect program current op operand)
   pooled_effects current op operand sound no_call = by_test (within 18 19 op) operand sound
     where
-      by_member : (a : Bool) (ref : MemberRef) → IsSoundField program op ref
+      by_member : (a : Bool) (ref : MemberRef) → (a ≡ true → IsSoundField program op ref)
           → (if a then field_by program op ref.owner (field_desc_in ref.desc) else if within 182 185 op then call_effect program op current ref (method_desc_in ref.desc) else wrong_effect).wrong ≡ false
           → IsInstructionWith program (if a then names_field program op ref else names_method program op ref)
           (if a then field_by program op ref.owner (field_desc_in ref.desc) else if within 182 185 op then call_effect program op current ref (method_desc_in ref.desc) else wrong_effect)
-      by_member true ref h wrong = field_effects op ref h
+      by_member true ref h wrong = field_effects op ref (h refl)
       by_member false ref h wrong = absurd (true≢false (rw no_call at wrong))
 
       by_test : (a : Bool) (operand : Option Operand) → IsSoundOperand program op operand → (if a then constant_of operand else named_effect program current op operand).wrong ≡ false

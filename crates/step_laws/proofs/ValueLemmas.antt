@@ -23,7 +23,7 @@ module _ (program : Program) (sound : HasSoundHierarchy program) (heap : List He
   -- ---- what stands on the heap is below java/lang/Object
 
   object_below : (o : HeapObject) → IsTypedObject program heap o → IsBelowObject program (type_of o.info)
-  object_below o (of_class _ c class is found fields contents) =
+  object_below o (of_class _ c class is found made fields contents) =
       subst (λ (info : Info). IsBelowObject program (type_of info)) (sym is) (sound.below_object c class found)
   object_below o (of_array _ type count is long fits elements) =
       subst (λ (info : Info). IsBelowObject program (type_of info)) (sym is) (eq-eqb object_number object_number refl)

@@ -26,7 +26,7 @@ use Rattle.machine.specs.Execution as does
 use Rattle.machine.specs.Execution.{Outcome}
 use Rattle.machine.specs.Invocation.{type_of}
 use Rattle.machine.specs.Heaps.{first_contents}
-use Rattle.step_laws.specs.TypedStates.{IsOnStack, Pairwise, StandsAt, IsFieldContent, has_dims}
+use Rattle.step_laws.specs.TypedStates.{IsOnStack, Pairwise, StandsAt, IsFieldContent, has_dims, has_objects}
 use Rattle.step_laws.specs.Needs.{has_letter}
 
 -- ---- fields
@@ -103,7 +103,7 @@ pub data HasEffect (program : Program) : Instruction → Effect → Type 0 where
       → HasEffect program (code.gets_field f) (stack_effect (OfEach (owner ∷ []) ∷ []) (Always (kind_of_type program type) ∷ []))
   field_put : (f : ℕ) (type : FieldDesc) (owner : TypeRef) → HasType program f type → HasField program owner f
       → HasEffect program (code.puts_field f type) (stack_effect (need_of (kind_of_type program type) ∷ OfEach (owner ∷ []) ∷ []) [])
-  created : (c : ℕ) (class : Class) → class_at program c ≡ Some class → HasEffect program (code.creates c) (makes [] (OfClass c))
+  created : (c : ℕ) (class : Class) → class_at program c ≡ Some class → has_objects class ≡ true → HasEffect program (code.creates c) (makes [] (OfClass c))
   array_created : (type : FieldDesc) → takes_type program (type_of (array type 0)) (type_of (array type 0)) ≡ true
       → HasEffect program (code.creates_array type) (makes (AnInt ∷ []) (type_of (array type 0)))
   array_measured : HasEffect program code.measures (pushes_int (AnArray ∷ []))
@@ -140,9 +140,9 @@ pub data TakesValue (program : Program) (s : State) : Cell ℕ → Value ℕ →
       → IsOnStack program s.heap (kind_of_type program type) v → TakesValue program s (element a i) v
   in_static : (f : ℕ) (v : Value ℕ) → IsFieldContent program s.heap (f, v) → TakesValue program s (static f) v
 
--- an object of a class of the program, or an array whose length is an int, that is of a type
+-- an object of a class of the program that may have objects, or an array whose length is an int, that is of a type
 abbrev pub IsMade : Program → TypeRef → Info → Type 0
-IsMade program type (object c) = ((class : Class) × (class_at program c ≡ Some class)) × (takes_type program (OfClass c) type ≡ true)
+IsMade program type (object c) = ((class : Class) × (class_at program c ≡ Some class) × (has_objects class ≡ true)) × (takes_type program (OfClass c) type ≡ true)
 IsMade program type (array elements count) = (takes_type program (type_of (array elements count)) type ≡ true) × FitsSigned w32 (pos count)
 
 -- where an instruction may jump

@@ -7,6 +7,7 @@ use Rattle.jo_prog.specs.declared.program.Class.{Class}
 use Rattle.jo_prog.specs.Program.{class_at}
 use Rattle.jo_prog.specs.Values.{Info, object, array}
 use Rattle.jo_prog.specs.Machine.{HeapObject}
+use Rattle.step_laws.specs.TypedStates.{has_objects}
 
 -- the same object, maybe with other content; one that was started stays so
 pub record StillStands (heap : List HeapObject) (a : ℕ) (o : HeapObject) : Type 0 where
@@ -19,7 +20,7 @@ pub record StillStands (heap : List HeapObject) (a : ℕ) (o : HeapObject) : Typ
 pub record GrowsTo (old new : List HeapObject) : Type 0 where
   pub keeps : (a : ℕ) (o : HeapObject) → slice_get old a ≡ Some o → StillStands new a o
 
--- an object of a class of the program, or an array whose length is an int
+-- an object of a class of the program that may have objects, or an array whose length is an int
 abbrev pub CanBeMade : Program → Info → Type 0
-CanBeMade program (object c) = (class : Class) × (class_at program c ≡ Some class)
+CanBeMade program (object c) = (class : Class) × (class_at program c ≡ Some class) × (has_objects class ≡ true)
 CanBeMade program (array type count) = FitsSigned w32 (pos count)

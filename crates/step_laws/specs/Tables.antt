@@ -21,10 +21,11 @@ use Rattle.jo_prog.specs.MethodTypes.{field_desc_in}
 use Rattle.jo_prog.specs.Operations.{within}
 use Rattle.jo_prog.specs.Values.{array}
 use Rattle.machine.specs.Invocation.{type_of}
-use Rattle.step_laws.specs.TypedStates.{has_dims}
+use Rattle.step_laws.specs.TypedStates.{has_dims, has_objects}
 use Rattle.jo_prog.specs.declared.program.Program.{Program}
 use Rattle.jo_prog.specs.Shapes.{Need, Nothing, Effect, takes_type}
 use Rattle.jo_prog.specs.InsnTyping.{result_kind_of, plain_effect}
+use Rattle.jo_prog.specs.TypingPaths.{Typable, Step, IsTypable, TypingPath, arrives_at}
 use Rattle.machine.specs.Instructions.{Instruction, plain_instruction, element_type, field_named}
 use Rattle.step_laws.specs.Effects.{HasEffect, HasType, HasField, IsStaticOf}
 
@@ -50,10 +51,10 @@ pub record IsInstructionWith (program : Program) (found : Option Instruction) (e
 
 -- ---- operands
 
--- what a new (187) makes is a class of the program, the array type that an anewarray (189) makes is a subtype of itself, and an array
+-- what a new (187) makes is a class of the program that may have objects, the array type that an anewarray (189) makes is a subtype of itself, and an array
 -- type has a dimension
 pub record IsSoundType (program : Program) (op : ℕ) (type : TypeRef) : Type 0 where
-  pub made : op ≡ 187 → (c : ℕ) × (class : Class) × (type ≡ OfClass c) × (class_at program c ≡ Some class)
+  pub made : op ≡ 187 → (c : ℕ) × (class : Class) × (type ≡ OfClass c) × (class_at program c ≡ Some class) × (has_objects class ≡ true)
   pub elements : op ≡ 189 → takes_type program (type_of (array (element_type program type) 0)) (type_of (array (element_type program type) 0)) ≡ true
   pub dims : has_dims type ≡ true
 
@@ -68,12 +69,12 @@ pub record IsSoundField (program : Program) (op : ℕ) (ref : MemberRef) : Type 
   pub own : (op == 178 || op == 179) ≡ false → HasType program field type
   pub held : (op == 178 || op == 179) ≡ false → HasField program ref.owner field
 
--- an int is one of 32 bits, and a text has an object
+-- an int is one of 32 bits, a text has an object, and what 178 to 181 name is such a field
 abbrev pub IsSoundOperand : Program → ℕ → Option Operand → Type 0
 IsSoundOperand program op (Some (IntOperand z)) = FitsSigned w32 z
 IsSoundOperand program op (Some (Text text)) = (a : ℕ) × (string_address program text ≡ Some a)
 IsSoundOperand program op (Some (OfType type)) = IsSoundType program op type
-IsSoundOperand program op (Some (Member ref)) = IsSoundField program op ref
+IsSoundOperand program op (Some (Member ref)) = within 178 181 op ≡ true → IsSoundField program op ref
 IsSoundOperand program op operand = Unit {0}
 
 abbrev pub IsSoundInsn : Program → ℕ → Insn → Type 0
@@ -85,7 +86,15 @@ abbrev pub is_call : Insn → Bool
 is_call (Pooled op index) = within 182 185 op
 is_call insn = false
 
--- code of bytes, whose instructions have sound operands
+-- a typing path arrives at a pc of a method
+pub record IsReached (program : Program) (m pc : ℕ) : Type 0 where
+  pub typable : Typable
+  pub is_typable : IsTypable program m typable
+  pub path : List Step
+  pub is_path : TypingPath program typable path
+  pub arrives : arrives_at path ≡ pc
+
+-- code of bytes, whose instructions have sound operands where typing's paths arrive at them
 pub record HasSoundCode (program : Program) (m : ℕ) (code : Code) : Type 0 where
   pub bytes : AllByRecursion (λ byte. byte < 2 ^ 8) code.bytes
-  pub operands : (pc next : ℕ) (insn : Insn) → decoded code.bytes pc ≡ Ok (insn, next) → IsSoundInsn program m insn
+  pub operands : (pc next : ℕ) (insn : Insn) → IsReached program m pc → decoded code.bytes pc ≡ Ok (insn, next) → IsSoundInsn program m insn

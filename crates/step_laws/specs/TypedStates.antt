@@ -1,9 +1,9 @@
 -- States of the machine that typing speaks of: what stands in each place is of the kind that some typing path gives that place (JVM
 -- Specification SE 8, 2.3, 2.4, 2.6, 2.10 and 4.10; the form by paths is this project's own).
-use Rattle.std.specs.Prelude.{◌≡◌, ℕ, Bool, true, nat_lt, ℤ, pos, List, [], ◌∷◌, length, map, drop, Option, Some, None, slice_get, FitsSigned}
+use Rattle.std.specs.Prelude.{◌≡◌, ℕ, Bool, true, not, ◌||◌, nat_lt, ℤ, pos, List, [], ◌∷◌, length, map, drop, Option, Some, None, slice_get, FitsSigned}
 use Rattle.std.specs.Int.{w32}
 use Rattle.jo_text.specs.declared.descriptors.FieldDesc.{FieldDesc}
-use Rattle.jo_insn.specs.AccessFlags.{has_flag, static_flag}
+use Rattle.jo_insn.specs.AccessFlags.{has_flag, static_flag, abstract_flag}
 use Rattle.jo_prog.specs.declared.program.Program.{Program}
 use Rattle.jo_prog.specs.declared.program.Class.{Class}
 use Rattle.jo_prog.specs.declared.program.Field.{Field}
@@ -15,7 +15,7 @@ use Rattle.jo_prog.specs.Constants.{string_address}
 use Rattle.jo_prog.specs.MethodTypes.{field_desc_in}
 use Rattle.jo_prog.specs.Types.{type_fits}
 use Rattle.jo_prog.specs.Typing.{Kind, Int, Null, Ref, Unset, Shape}
-use Rattle.jo_prog.specs.Shapes.{kind_of_type, takes_type}
+use Rattle.jo_prog.specs.Shapes.{interface_flag, kind_of_type, takes_type}
 use Rattle.jo_prog.specs.InsnTyping.{throwable}
 use Rattle.jo_prog.specs.TypingPaths.{Typable, Step, IsTypable, TypingPath, arrives_at, shape_of}
 use Rattle.jo_prog.specs.Values.{Value, int, null, ref, object, array}
@@ -133,10 +133,14 @@ pub record IsFieldContent (program : Program) (heap : List HeapObject) (content 
   pub is_field : slice_get program.fields content.0 ≡ Some field
   pub fits : IsOnStack program heap (kind_of_desc program (field_desc_in field.desc)) content.1
 
--- An object of a class of the program, with its fields and those of the classes above, or an array with as many elements as it is long;
--- that is an int.
+-- a class that may have objects: neither abstract nor an interface (4.1)
+abbrev pub has_objects : Class → Bool
+has_objects class = not (has_flag abstract_flag class.flags || has_flag interface_flag class.flags)
+
+-- An object of a class of the program that may have objects, with its fields and those of the classes above, or an array with as many
+-- elements as it is long; that is an int.
 pub data IsTypedObject (program : Program) (heap : List HeapObject) : HeapObject → Type 0 where
-  of_class : (o : HeapObject) (c : ℕ) (class : Class) → o.info ≡ object c → class_at program c ≡ Some class
+  of_class : (o : HeapObject) (c : ℕ) (class : Class) → o.info ≡ object c → class_at program c ≡ Some class → has_objects class ≡ true
       → map (λ content. content.0) o.fields ≡ map (λ content. content.0) (first_contents program c)
       → ((k : ℕ) (content : ℕ × Value ℕ) → slice_get o.fields k ≡ Some content → IsFieldContent program heap content)
       → IsTypedObject program heap o
