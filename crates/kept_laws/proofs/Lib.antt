@@ -14,3 +14,4 @@ pub mod InvokeLemmas
 pub mod TakenLemmas
 pub mod CalledLemmas
 pub mod WholeLemmas
+pub mod HeightLemmas

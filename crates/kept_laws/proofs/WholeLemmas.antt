@@ -1,7 +1,7 @@
 -- Every thread that may step has a next state, which is typed.
 use Rattle.std.proofs.Common.{◌≡◌, ◌⊎◌, ◌∙◌, ℕ, suc, zero, ◌+◌, ◌≤◌, Bool, true, false, List, [], ◌∷◌, ◌++◌, length, take, drop, Option, Some, None, Result, Ok, refl, sym, ap, subst, inl, inr, arith}
-use Rattle.std.specs.Prelude.{slice_get, if◌then◌else◌, option_map, option_and_then, Contains}
-use Rattle.std.proofs.lemmas.Bool.{cases_Bool}
+use Rattle.std.specs.Prelude.{◌==◌, ◌||◌, slice_get, if◌then◌else◌, option_map, option_and_then, Contains}
+use Rattle.std.proofs.lemmas.Bool.{cases_Bool, and_parts, or_cases, eqb-true}
 use mathlib.Core.List.{reverse}
 use Rattle.jo_text.specs.declared.descriptors.MethodDesc.{MethodDesc}
 use Rattle.jo_insn.specs.Instructions.{decoded}
@@ -20,19 +20,20 @@ use Rattle.jo_prog.specs.declared.runs.SourceInput.{SourceInput}
 use Rattle.jo_prog.specs.MethodTypes.{method_desc_in}
 use Rattle.jo_prog.specs.Operations.{within}
 use Rattle.jo_prog.specs.Program.{method_at, code_at, operand_at}
-use Rattle.jo_prog.specs.Shapes.{Need, Effect, is_interface}
-use Rattle.jo_prog.specs.InsnTyping.{argument_needs, receiver_needs, pooled_effect, effect_of}
+use Rattle.jo_prog.specs.Shapes.{Need, OfEach, Effect, is_interface, takes_type, fits_each}
+use Rattle.jo_prog.specs.InsnTyping.{argument_needs, special_types, receiver_needs, pooled_effect, effect_of}
 use Rattle.jo_prog.specs.TypingPaths.{effect_at, IsTypedMethod}
-use Rattle.jo_prog.specs.Values.{Value}
+use Rattle.jo_prog.specs.Values.{Value, ref}
 use Rattle.jo_prog.specs.Machine.{Frame, Thread, State, popped, info_at}
 use Rattle.machine.specs.Instructions as code
 use Rattle.machine.specs.Instructions.{Instruction, method_named, values_taken, names_field, names_method, instruction_of, instruction_at, pooled_instruction}
-use Rattle.machine.specs.Invocation.{Invoked, callee, invoked}
+use Rattle.machine.specs.Invocation.{Invoked, callee, type_of, invoked}
 use Rattle.machine.specs.Heaps.{was_started}
 use Rattle.machine.specs.Steps.{class_of_method, called, invoked_step, call_step, step}
 use Rattle.machine.specs.Runs.{may_step, enabled_from, enabled}
-use Rattle.step_laws.specs.TypedStates.{IsOnStack, Pairwise, HasShape, IsReady, AreWaiting, IsTypedState}
+use Rattle.step_laws.specs.TypedStates.{IsOnStack, Pairwise, one_more, HasShape, IsReady, StandsAt, AreWaiting, IsTypedState}
 use Rattle.step_laws.specs.Effects.{ArePopped}
+use Rattle.step_laws.specs.Needs.{InfoMeets, StandsWith, Meets}
 use Rattle.step_laws.specs.Tables.{IsReached, is_call}
 use Rattle.step_laws.proofs.TypeLemmas.{never}
 use Rattle.step_laws.proofs.FetchLemmas.{popped_is, pairwise_length, pairwise_drop, popped_given, pops_there, all_right}
@@ -47,6 +48,7 @@ use Rattle.kept_laws.proofs.TopLemmas.{within_parts, not_within, CallsMember, ca
 use Rattle.kept_laws.proofs.ReturnLemmas.{return_typed}
 use Rattle.kept_laws.proofs.CallLemmas.{on, call, is_within, effect_is, count_is}
 use Rattle.kept_laws.proofs.InvokeLemmas.{invoked_typed}
+use Rattle.kept_laws.proofs.TakenLemmas.{takes_fits}
 use Rattle.kept_laws.proofs.CalledLemmas.{asked, given_in_order, comes}
 
 same_some : {X : Type 0} {x y : X} → Some x ≡ Some y → x ≡ y
@@ -131,6 +133,42 @@ module _ (program : Program) (labels : Labels) (inputs : List SourceInput) (prem
         (invoked_typed program premises.hierarchy premises.raised premises.all_typed inputs premises.ints s state t thread at f below ready
         (top_ready program labels inputs s state t thread f below at none frames).1 op owner named count next at_call (drop count f.stack)
         (pairwise_drop (IsOnStack program s.heap) count ready.shape.stack f.stack ready.stack) outcome.outcome outcome.follows)))
+
+    -- ---- its receiver
+
+    receiver_first : (a : ℕ) (more : List TypeRef) (needs : List Need) (vs arguments : List (Value ℕ)) → vs ≡ ref a ∷ arguments
+        → Pairwise (Meets program s.heap) (OfEach (it.ref.owner ∷ more) ∷ needs) vs → StandsWith s.heap a (InfoMeets program (OfEach (it.ref.owner ∷ more)))
+    receiver_first a more needs vs arguments is (one_more need v others rest h later) =
+        let same : v ≡ ref a = (let e = is in cc) in
+        subst (Meets program s.heap (OfEach (it.ref.owner ∷ more))) same h
+
+    receiver_of : (a : ℕ) (more : List TypeRef) → (op == 182 || op == 183) ≡ true → StandsWith s.heap a (InfoMeets program (OfEach (it.ref.owner ∷ more))) → StandsAt program s.heap a owner
+    receiver_of a more by_class stands =
+        let first = and_parts (takes_type program (type_of stands.found.info) it.ref.owner) (fits_each program (type_of stands.found.info) more) stands.fits in
+        subst (StandsAt program s.heap a) it.of_owner
+        (record { found = stands.found; is_there = stands.is_there; fits = takes_fits program premises.hierarchy (type_of stands.found.info) it.ref.owner (right.of_class by_class) first.0 })
+
+    pub receiver_below : (op == 182 || op == 183) ≡ true → (values rest arguments : List (Value ℕ)) (a : ℕ) → popped count f.stack ≡ Some (values, rest) → reverse values ≡ ref a ∷ arguments
+        → StandsAt program s.heap a owner
+    receiver_below by_class values rest arguments a is_popped is =
+        let same : take count f.stack ≡ values = ap (λ (p : List (Value ℕ) × List (Value ℕ)). p.0) (same_some (sym (popped_is count f.stack enough) ∙ is_popped)) in
+        by_tests (op == 184) (op == 183) refl (subst (λ (vs : List (Value ℕ)). Pairwise (Meets program s.heap) (receiver_needs program op current it.ref ++ asked program premises.hierarchy s state it.type.params) (reverse vs)) same
+        (given_in_order program premises.hierarchy s state op current it.ref it.type.params ready.shape.stack (take count f.stack) values_popped))
+      where
+        no_static : (op == 184) ≡ true → ⊥
+        no_static e =
+            let is_static = eqb-true op 184 e in
+            elim (or_cases (op == 182) (op == 183) by_class) [
+              | inl same ↦ let other = eqb-true op 182 same in omega (arith, is_static, other)
+              | inr same ↦ let other = eqb-true op 183 same in omega (arith, is_static, other)
+            ]
+
+        by_tests : (x y : Bool) → (op == 184) ≡ x
+            → Pairwise (Meets program s.heap) ((if x then [] else if y then OfEach (it.ref.owner ∷ special_types program current it.ref) ∷ [] else OfEach (it.ref.owner ∷ []) ∷ []) ++ asked program premises.hierarchy s state it.type.params) (reverse values)
+            → StandsAt program s.heap a owner
+        by_tests true y e held = absurd (no_static e)
+        by_tests false true e held = receiver_of a (special_types program current it.ref) by_class (receiver_first a (special_types program current it.ref) _ (reverse values) arguments is held)
+        by_tests false false e held = receiver_of a [] by_class (receiver_first a [] _ (reverse values) arguments is held)
 
   -- ---- whatever the top frame stands at
 

@@ -1,5 +1,5 @@
 //! Laws of steps that keep states typed. Each function is empty: what it ensures is the law.
-ghost use Rattle.std.specs.Prelude.{◌≡◌, ℕ, false, List, ◌∷◌, Contains, true, Option, Some, None, slice_get};
+ghost use Rattle.std.specs.Prelude.{◌≡◌, ℕ, false, ◌==◌, ◌||◌, List, ◌∷◌, length, Contains, true, Option, Some, None, slice_get};
 ghost use Rattle.jo_prog.specs.declared.labels.Labels.{Labels};
 ghost use Rattle.jo_insn.specs.declared.jumps.Placed.{Placed};
 ghost use Rattle.jo_prog.specs.declared.program.Code.{Code};
@@ -7,12 +7,15 @@ ghost use Rattle.jo_prog.specs.InsnTyping.{insn_at};
 ghost use Rattle.jo_prog.specs.declared.program.Program.{Program};
 ghost use Rattle.jo_prog.specs.declared.runs.SourceInput.{SourceInput};
 ghost use Rattle.jo_prog.specs.Program.{code_at};
-ghost use Rattle.jo_prog.specs.Machine.{Frame, Thread, State};
-ghost use Rattle.jo_prog.specs.TypingPaths.{Typable, Step, IsTypable, IsTypedMethod, TypingPath, TakesStep, arrives_at};
+ghost use Rattle.jo_prog.specs.Machine.{Frame, Thread, HeapObject, State, popped};
+ghost use Rattle.jo_prog.specs.InsnTyping.{throwable};
+ghost use Rattle.jo_prog.specs.Values.{Value, ref};
+ghost use mathlib.Core.List.{reverse};
+ghost use Rattle.jo_prog.specs.TypingPaths.{Typable, Step, IsTypable, IsTypedMethod, TypingPath, TakesStep, HasHeightAt, arrives_at};
 ghost use Rattle.jo_prog.specs.TypingPaths.{effect_at, leads_outside, successors_at};
 ghost use Rattle.machine.specs.Instructions.{Instruction, calls, instruction_of, instruction_at};
 ghost use Rattle.machine.specs.Steps.{fetched, executed, step};
-ghost use Rattle.step_laws.specs.TypedStates.{IsReady, AreWaiting, IsTypedState};
+ghost use Rattle.step_laws.specs.TypedStates.{IsReady, AreWaiting, StandsAt, IsTypedState};
 ghost use Rattle.step_laws.specs.Premises.{HasSoundHierarchy};
 ghost use Rattle.step_laws.specs.Effects.{HasEffect};
 ghost use Rattle.step_laws.specs.Tables.{HasSoundCode};
@@ -82,4 +85,23 @@ pub fn calls_keep_typing()
 pub fn typed_steps_go_on()
     ensures { (program : Program) (labels : Labels) (inputs : List SourceInput) → HasPremises program labels inputs → (s : State) → IsTypedState program s
         → (t : ℕ) → Contains (enabled program labels s) t → HasTypedStep program (step program labels inputs s t) }
+{}
+
+/// A receiver of invokevirtual (182) or invokespecial (183) that isn't null is of a class below the one that the call names.
+pub fn receivers_are_of_named_types()
+    ensures { (program : Program) (labels : Labels) (inputs : List SourceInput) → HasPremises program labels inputs → (s : State) → IsTypedState program s
+        → (t : ℕ) (thread : Thread) (f : Frame) (below : List Frame) → slice_get s.threads t ≡ Some thread → thread.pending ≡ None → thread.frames ≡ f ∷ below
+        → (op : ℕ) (owner : TypeRef) (named count next : ℕ) → instruction_at program f.method f.pc ≡ Some (calls op owner named count, next) → (op == 182 || op == 183) ≡ true
+        → (values rest arguments : List (Value ℕ)) (a : ℕ) → popped count f.stack ≡ Some (values, rest) → reverse values ≡ ref a ∷ arguments → StandsAt program s.heap a owner }
+{}
+
+/// An exception that is on its way in a typed state is a Throwable.
+pub fn thrown_objects_are_throwables()
+    ensures { (program : Program) (s : State) → IsTypedState program s → (t : ℕ) (thread : Thread) (a : ℕ) → slice_get s.threads t ≡ Some thread → thread.pending ≡ Some a → StandsAt program s.heap a throwable }
+{}
+
+/// A typed method has one height at each pc, and a frame that goes on there has so many values on its stack.
+pub fn heights_are_unique()
+    ensures one { (program : Program) (m : ℕ) → IsTypedMethod program m → (pc h k : ℕ) → HasHeightAt program m pc h → HasHeightAt program m pc k → h ≡ k }
+    ensures frames { (program : Program) (heap : List HeapObject) (f : Frame) → IsTypedMethod program f.method → IsReady program heap f → (height : ℕ) → HasHeightAt program f.method f.pc height → length f.stack ≡ height }
 {}

@@ -105,7 +105,7 @@ module _ (program : Program) (heap : List HeapObject) where
   spelled desc (Some (own, [])) e type is = (field_taken desc own [] (sym e)).0 ∙ append-nil (field_text own) ∙ ap field_text (same_some is)
   spelled desc (Some (own, b ∷ rest)) e type is = absurd (cc)
 
-  default_holds : (desc : List ℕ) → IsOnStack program heap (kind_of_desc program (field_desc_in desc)) (default_value desc)
+  pub default_holds : (desc : List ℕ) → IsOnStack program heap (kind_of_desc program (field_desc_in desc)) (default_value desc)
   default_holds desc = by_type (field_desc_in desc) refl
     where
       by_type : (o : Option FieldDesc) → field_desc_in desc ≡ o → IsOnStack program heap (kind_of_desc program o) (default_value desc)
