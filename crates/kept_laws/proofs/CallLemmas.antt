@@ -1,24 +1,20 @@
 -- A frame that stands at a call: the method that is named, and what typing says of the call.
-use Rattle.std.proofs.Common.{◌≡◌, ◌∙◌, ℕ, suc, ◌+◌, Bool, true, false, List, [], ◌∷◌, ◌++◌, map, length, drop, Option, Some, None, refl, sym, ap, subst, arith, length-append}
-use Rattle.std.specs.Prelude.{◌==◌, if◌then◌else◌, option_map}
+use Rattle.std.proofs.Common.{◌≡◌, ◌∙◌, ℕ, suc, ◌+◌, Bool, true, false, [], ◌∷◌, ◌++◌, map, length, Option, Some, refl, sym, ap, subst, arith, length-append}
+use Rattle.std.specs.Prelude.{◌==◌, if◌then◌else◌}
 use Rattle.std.proofs.lemmas.List.{length-reverse, length-map}
-use Rattle.jo_text.specs.declared.descriptors.FieldDesc.{FieldDesc}
 use Rattle.jo_text.specs.declared.descriptors.MethodDesc.{MethodDesc}
 use Rattle.jo_insn.specs.declared.instructions.Insn.{Insn}
-use Rattle.jo_insn.specs.declared.instructions.Insn.TheVariants.{Pooled}
 use Rattle.jo_prog.specs.declared.program.Program.{Program}
-use Rattle.jo_prog.specs.declared.program.Method.{Method}
 use Rattle.jo_prog.specs.declared.program.TypeRef.{TypeRef}
 use Rattle.jo_prog.specs.declared.program.MemberRef.{MemberRef}
-use Rattle.jo_prog.specs.declared.program.Operand.{Operand}
 use Rattle.jo_prog.specs.declared.program.Operand.TheVariants.{Member}
-use Rattle.jo_prog.specs.Program.{method_at, operand_at}
+use Rattle.jo_prog.specs.Program.{method_at}
 use Rattle.jo_prog.specs.Calls.{receiver_class}
 use Rattle.jo_prog.specs.Hierarchy.{HasNoCycle}
 use Rattle.jo_prog.specs.MethodTypes.{field_desc_in, method_desc_in}
 use Rattle.jo_prog.specs.Operations.{within}
-use Rattle.jo_prog.specs.Typing.{Kind, Shape}
-use Rattle.jo_prog.specs.Shapes.{Effect, Need, Origin, OfEach, kind_of_type, need_of, kind_from}
+use Rattle.jo_prog.specs.Typing.{Shape}
+use Rattle.jo_prog.specs.Shapes.{Effect, OfEach, kind_of_type, need_of}
 use Rattle.jo_prog.specs.InsnTyping.{stack_effect, wrong_effect, effect_of, pooled_effect, call_effect, field_by, special_types, receiver_needs, argument_needs, result_origins}
 use Rattle.jo_prog.specs.TypingPaths.{effect_at, IsTypedMethod}
 use Rattle.jo_prog.specs.Machine.{Frame}

@@ -1,8 +1,8 @@
 -- A call in a typed state comes to something, by its opcode.
-use Rattle.std.proofs.Common.{◌≡◌, ◌⊎◌, ◌∙◌, ℕ, suc, zero, ◌≤◌, Bool, true, false, not, ◌&&◌, ◌||◌, List, [], ◌∷◌, ◌++◌, map, length, Option, Some, None, refl, sym, ap, subst, inl, inr, arith}
+use Rattle.std.proofs.Common.{◌≡◌, ◌∙◌, ℕ, ◌≤◌, Bool, true, false, not, ◌||◌, List, [], ◌∷◌, ◌++◌, map, Option, Some, None, refl, sym, ap, subst, inl, inr, arith}
 use Rattle.std.specs.Prelude.{◌==◌, ℤ, slice_get, if◌then◌else◌, option_and_then, FitsSigned}
 use Rattle.std.specs.Int.{w32}
-use Rattle.std.proofs.lemmas.Bool.{cases_Bool, cases_eq, and_parts, or_cases, or_left, or_right, eqb-true, eqb-false, eq-eqb, ne_eqb}
+use Rattle.std.proofs.lemmas.Bool.{cases_eq, and_parts, or_left, or_right, eqb-false, eq-eqb}
 use Rattle.std.proofs.lemmas.List.{reverse-append, reverse-reverse}
 use mathlib.Core.List.{reverse, reverse_aux}
 use Rattle.std.specs.List.{AllByRecursion, Contains}
@@ -11,7 +11,6 @@ use Rattle.jo_insn.specs.AccessFlags.{has_flag, static_flag}
 use Rattle.jo_text.specs.declared.descriptors.FieldDesc.{FieldDesc}
 use Rattle.jo_text.specs.declared.descriptors.MethodDesc.{MethodDesc}
 use Rattle.jo_ids.specs.Path.{stays, goes}
-use Rattle.jo_ids.proofs.PathLemmas.{path_on}
 use Rattle.jo_prog.specs.declared.calls.Taken.{Taken}
 use Rattle.jo_prog.specs.declared.calls.Taken.TheVariants.{Code as TakesCode, Start, Join, Native, Nothing}
 use Rattle.jo_prog.specs.declared.labels.Label.{Label}
@@ -19,14 +18,13 @@ use Rattle.jo_prog.specs.declared.labels.Label.TheVariants.{Source, Sink, Releas
 use Rattle.jo_prog.specs.declared.labels.Labels.{Labels}
 use Rattle.jo_prog.specs.declared.program.Program.{Program}
 use Rattle.jo_prog.specs.declared.program.Class.{Class}
-use Rattle.jo_prog.specs.declared.program.Code.{Code}
 use Rattle.jo_prog.specs.declared.program.Method.{Method}
 use Rattle.jo_prog.specs.declared.program.MemberRef.{MemberRef}
 use Rattle.jo_prog.specs.declared.program.TypeRef.{TypeRef}
-use Rattle.jo_prog.specs.declared.program.TypeRef.TheVariants.{Class as OfClass, Array as OfArray}
+use Rattle.jo_prog.specs.declared.program.TypeRef.TheVariants.{Class as OfClass}
 use Rattle.jo_prog.specs.declared.sites.Cause.TheVariants.{NullBase, MissingInterface}
 use Rattle.jo_prog.specs.Calls.{receiver_class, superclass_at, is_taken_as_resolved, special_in, special, taken_from, takes}
-use Rattle.jo_prog.specs.Hierarchy.{superclass_of, superclass_in, is_subtype, own_method, is_static_method, resolve_method, search_from, select}
+use Rattle.jo_prog.specs.Hierarchy.{superclass_in, is_subtype, own_method, is_static_method, search_from, select}
 use Rattle.jo_prog.specs.Labels.{label_of}
 use Rattle.jo_prog.specs.MethodTypes.{method_desc_in}
 use Rattle.jo_prog.specs.PreludeClasses.{object_number}
@@ -35,15 +33,14 @@ use Rattle.jo_prog.specs.Types.{type_fits}
 use Rattle.jo_prog.specs.Typing.{Kind, Ref}
 use Rattle.jo_prog.specs.Shapes.{Need, AnInt, OfEach, is_interface, takes_type, fits_each, kind_of_type, need_of}
 use Rattle.jo_prog.specs.InsnTyping.{receiver_kinds, param_kinds, searched_class, special_types, receiver_needs, argument_needs}
-use Rattle.jo_prog.specs.Values.{Value, int, null, ref, Info, object, array}
+use Rattle.jo_prog.specs.Values.{Value, int, null, ref, Info}
 use Rattle.jo_prog.specs.Machine.{HeapObject, State, info_of, info_at}
 use Rattle.jo_prog.proofs.WalkLemmas.{here}
-use Rattle.jo_prog.proofs.HierarchyLemmas.{from_superclass, subtype_every, subtype_along}
-use Rattle.machine.specs.Instructions.{method_named, method_desc, result_of}
-use Rattle.machine.specs.Invocation.{Callee, callee, Invoked, enters, asks, shows, releases, fails, class_of, type_of, natively, by_taken, by_receiver, invoked}
+use Rattle.jo_prog.proofs.HierarchyLemmas.{from_superclass, subtype_every}
+use Rattle.machine.specs.Instructions.{method_desc, result_of}
+use Rattle.machine.specs.Invocation.{Callee, callee, enters, asks, shows, releases, fails, class_of, type_of, natively, by_taken, by_receiver, invoked}
 use Rattle.machine.specs.Heaps.{was_started}
-use Rattle.machine.specs.Steps.{class_of_method, called}
-use Rattle.step_laws.specs.TypedStates.{PlaceHasKind, IsOnStack, Pairwise, no_more, one_more, has_objects, IsTypedObject, of_class, of_array, IsTypedState}
+use Rattle.step_laws.specs.TypedStates.{PlaceHasKind, Pairwise, no_more, one_more, has_objects, IsTypedObject, of_class, of_array, IsTypedState}
 use Rattle.step_laws.specs.Premises.{HasSoundHierarchy}
 use Rattle.step_laws.specs.Needs.{InfoMeets, StandsWith, Meets, IsPlainNeed}
 use Rattle.step_laws.specs.Effects.{ArePopped}
@@ -51,9 +48,9 @@ use Rattle.step_laws.proofs.TypeLemmas.{never, subtype_on, fits_on}
 use Rattle.step_laws.proofs.ExecLemmas.{need_plain}
 use Rattle.step_laws.proofs.ValueLemmas.{place_meets}
 use Rattle.kept_laws.specs.Premises.{IsSoundCall, HasSoundMethods, HasThreadMethods, AreNativesLabelled}
-use Rattle.kept_laws.specs.Calls.{TakesValues, IsInvoked, by_enter, by_ask, by_show, by_release, by_fail, int_type, ComesTo}
-use Rattle.kept_laws.proofs.MemberLemmas.{Declares, own_declared, Resolves, resolved, Selects, selected}
-use Rattle.kept_laws.proofs.TakenLemmas.{HasCode, tells, found_method, params_held, params_of, no_values, IsReceiver, label_type, label_shape, fits_above, class_below, fits_resolved, takes_fits, declared_receiver, instance_comes}
+use Rattle.kept_laws.specs.Calls.{by_enter, by_ask, by_show, by_release, by_fail, int_type, ComesTo}
+use Rattle.kept_laws.proofs.MemberLemmas.{Declares, own_declared, Resolves, resolved, selected}
+use Rattle.kept_laws.proofs.TakenLemmas.{HasCode, tells, found_method, params_of, IsReceiver, label_type, label_shape, fits_above, class_below, fits_resolved, takes_fits, declared_receiver, instance_comes}
 
 same_some : {X : Type 0} {x y : X} → Some x ≡ Some y → x ≡ y
 same_some e = cc
@@ -380,6 +377,7 @@ module _ (program : Program) (labels : Labels) (sound : HasSoundHierarchy progra
         subst (λ (b : Bool). ComesTo program s type.result (if not b then by_receiver own_call (info_at s) (was_started s) vs else by_taken own_call (info_at s) (was_started s) (takes program op current right.named object_number) vs)) (sym instance)
         (subst (λ (ws : List (Value ℕ)). ComesTo program s type.result (by_receiver own_call (info_at s) (was_started s) ws)) (sym parts.2)
         (receiver_comes instance more choose parts.1 parts.4 parts.0 parts.3))
+
     pub comes : (vs : List (Value ℕ)) → Pairwise (Meets program s.heap) (receiver_needs program op current ref_to ++ asked program sound s state type.params) vs → Comes vs
     comes vs held = by_tests (op == 184) (op == 183) refl refl held
       where

@@ -1,6 +1,6 @@
 -- What comes of a call keeps a typed state typed.
-use Rattle.std.proofs.Common.{◌≡◌, ◌⊎◌, ◌∙◌, ℕ, suc, zero, Bool, true, false, List, [], ◌∷◌, ◌++◌, map, length, take, drop, replicate, pos, Option, Some, None, refl, sym, ap, subst, inl, inr, arith}
-use Rattle.std.specs.Prelude.{ℤ, slice_get, slice_set, slice_index, option_map, option_and_then}
+use Rattle.std.proofs.Common.{◌≡◌, ◌⊎◌, ◌∙◌, ℕ, suc, zero, true, false, List, [], ◌∷◌, ◌++◌, map, length, take, drop, replicate, Option, Some, None, refl, sym, ap, subst, inl, inr}
+use Rattle.std.specs.Prelude.{ℤ, slice_get, slice_index, option_map, option_and_then}
 use Rattle.std.proofs.lemmas.List.{length-set}
 use Rattle.jo_text.specs.declared.descriptors.FieldDesc.{FieldDesc}
 use Rattle.jo_prog.specs.declared.program.Program.{Program}
@@ -13,20 +13,19 @@ use Rattle.jo_prog.specs.MethodTypes.{method_desc_in}
 use Rattle.jo_prog.specs.PreludeClasses.{thread_number}
 use Rattle.jo_prog.specs.Program.{method_at, code_at}
 use Rattle.jo_prog.specs.Sites.{class_raised}
-use Rattle.jo_prog.specs.Typing.{Kind, Int, Unset}
-use Rattle.jo_prog.specs.Shapes.{Effect, Origin, kind_from}
-use Rattle.jo_prog.specs.InsnTyping.{argument_needs, receiver_needs, result_origins, receiver_kinds, param_kinds, shape_at_start, throwable}
+use Rattle.jo_prog.specs.Typing.{Int, Unset}
+use Rattle.jo_prog.specs.Shapes.{Effect, kind_from}
+use Rattle.jo_prog.specs.InsnTyping.{result_origins, receiver_kinds, param_kinds, shape_at_start}
 use Rattle.jo_prog.specs.TypingPaths.{effect_at, IsTypedMethod}
 use Rattle.jo_prog.specs.Values.{Value, int, ref, object}
 use Rattle.jo_prog.specs.Machine.{Frame, Thread, HeapObject, State, input_at}
 use Rattle.machine.specs.Instructions as code
 use Rattle.machine.specs.Instructions.{instruction_at, method_desc, result_of}
-use Rattle.machine.specs.Invocation.{Invoked, enters, begins, joins, asks, shows, releases, fails}
+use Rattle.machine.specs.Invocation.{Invoked, enters, begins}
 use Rattle.machine.specs.Heaps.{new_object, new_address, with_new, on_object, marked_started, with_started, is_marked, was_started}
 use Rattle.machine.specs.Steps.{with_frames, frame_of, new_frame, entered, thread_begun, with_thread, with_cursor, invoked_step}
 use Rattle.step_laws.specs.TypedStates.{PlaceHasKind, unset, set, an_int, IsOnStack, Pairwise, no_more, one_more, IsReady, IsWaiting, AreWaiting, StandsAt, IsStartedAt, IsTypedThread, IsTypedObject, of_class, of_array, IsTypedState}
 use Rattle.step_laws.specs.Premises.{HasSoundHierarchy}
-use Rattle.step_laws.specs.Growth.{GrowsTo}
 use Rattle.step_laws.proofs.TypeLemmas.{never}
 use Rattle.step_laws.proofs.KeptLemmas.{pairwise_map, place_kept, set_there, object_changed}
 use Rattle.step_laws.proofs.NewLemmas.{new_kept, push_read}
@@ -216,7 +215,7 @@ module _ (program : Program) (sound : HasSoundHierarchy program) (raised : HasRa
               (subst (λ (n : ℕ). Pairwise (IsOnStack program new.heap) (drop n ready.shape.stack) rest) (sym same) rest_kept)),
           waiting_there program sound raised s state t thread at f below typed firsts ready waiting new kept grown,
         )
-            (λ a none. absurd (cc))
+        (λ a none. absurd (cc))
 
   no_result : (heap : List HeapObject) → type ≡ None → Pairwise (IsOnStack program heap) (map (kind_from program ready.shape) (result_origins program type)) []
   no_result heap is = subst (λ (o : Option FieldDesc). Pairwise (IsOnStack program heap) (map (kind_from program ready.shape) (result_origins program o)) []) (sym is) no_more
@@ -301,8 +300,12 @@ module _ (program : Program) (sound : HasSoundHierarchy program) (raised : HasRa
   invoked_typed outcome (by_ask source is) =
       let new = with_cursor s source in
       let same : IsGrown s new = record { threads = refl; grows = (not_grown s).grows } in
-      record { next = _; is_next = refl; typed = call_done new (cursor_set program s source state) same (int (input_at inputs source (slice_index s.cursors source)) ∷ [])
-          (an_int_more s.heap _ (set Int _ (an_int _ (ints source (slice_index s.cursors source)))) is) }
+      record {
+        next = _;
+        is_next = refl;
+        typed = call_done new (cursor_set program s source state) same (int (input_at inputs source (slice_index s.cursors source)) ∷ [])
+            (an_int_more s.heap _ (set Int _ (an_int _ (ints source (slice_index s.cursors source)))) is);
+      }
   invoked_typed outcome (by_show sink z none) = record { next = _; is_next = refl; typed = call_done s state (not_grown s) [] (no_result s.heap none) }
   invoked_typed outcome (by_release m z fits is) =
       record { next = _; is_next = refl; typed = call_done s state (not_grown s) (int z ∷ []) (an_int_more s.heap z (set Int (int z) (an_int z fits)) is) }

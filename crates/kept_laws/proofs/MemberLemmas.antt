@@ -1,21 +1,19 @@
 -- Methods that are found by name and descriptor, and the classes that declare them.
-use Rattle.std.proofs.Common.{◌≡◌, ◌⊎◌, ◌∙◌, ℕ, Bool, true, false, not, ◌&&◌, List, [], ◌∷◌, ◌++◌, Option, Some, None, refl, sym, ap, subst, inl, inr}
-use Rattle.std.specs.Prelude.{slice_get, if◌then◌else◌, option_and_then, Contains}
+use Rattle.std.proofs.Common.{◌≡◌, ◌∙◌, ℕ, Bool, true, false, List, [], ◌∷◌, Option, Some, None, refl, sym, ap, subst, inl, inr}
+use Rattle.std.specs.Prelude.{if◌then◌else◌, option_and_then, Contains}
 use Rattle.std.specs.List.{flat_map}
-use Rattle.std.specs.Option.{option_or}
 use Rattle.std.specs.Str.{bytes_eq}
 use Rattle.std.specs.Cmp.Lexicographic.{bytes_decides}
 use Rattle.std.proofs.lemmas.Bool.{and_parts}
 use Rattle.std.proofs.lemmas.List.Elements.{Contains-append_cases}
 use Rattle.jo_ids.specs.Path.{stays, goes}
 use Rattle.jo_ids.proofs.PathLemmas.{path_in, path_on}
-use Rattle.jo_insn.specs.AccessFlags.{has_flag, static_flag}
 use Rattle.jo_prog.specs.declared.program.Program.{Program}
 use Rattle.jo_prog.specs.declared.program.Class.{Class}
 use Rattle.jo_prog.specs.declared.program.Method.{Method}
 use Rattle.jo_prog.specs.Program.{class_at, method_at, has_signature, first_with}
-use Rattle.jo_prog.specs.Walks.{Leads, walk, first_found}
-use Rattle.jo_prog.specs.Hierarchy.{superclass_of, interfaces_of, parents_of, most_steps, Subtype, is_subtype, superclasses, superinterfaces, method_order, own_method, resolve_method, is_static_method, unless_static, own_instance_method, search_from, HasNoCycle}
+use Rattle.jo_prog.specs.Walks.{walk, first_found}
+use Rattle.jo_prog.specs.Hierarchy.{superclass_of, interfaces_of, most_steps, Subtype, is_subtype, superclasses, superinterfaces, method_order, own_method, resolve_method, is_static_method, unless_static, own_instance_method, search_from, HasNoCycle}
 use Rattle.jo_prog.proofs.WalkLemmas.{here, behind, in_flat_map, walk_reaches, is_first}
 use Rattle.jo_prog.proofs.HierarchyLemmas.{from_interfaces, from_superclass, subtype_every}
 use Rattle.std.proofs.lemmas.List.Elements.{Contains-append_right}

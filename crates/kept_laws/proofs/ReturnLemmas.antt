@@ -1,5 +1,5 @@
 -- A return keeps a typed state typed: the frame below goes on behind its call, with the result.
-use Rattle.std.proofs.Common.{◌≡◌, ◌∙◌, ℕ, Bool, true, false, List, [], ◌∷◌, ◌++◌, map, length, drop, pos, Option, Some, None, refl, sym, ap, subst}
+use Rattle.std.proofs.Common.{◌≡◌, ◌∙◌, ℕ, true, false, List, [], ◌∷◌, ◌++◌, map, length, drop, pos, Option, Some, None, refl, sym, ap, subst}
 use Rattle.std.specs.Prelude.{is_some, slice_get, Contains, option_map}
 use Rattle.jo_text.specs.declared.descriptors.FieldDesc.{FieldDesc}
 use Rattle.jo_text.specs.declared.descriptors.MethodDesc.{MethodDesc}
@@ -14,7 +14,7 @@ use Rattle.jo_prog.specs.Program.{method_at, code_at}
 use Rattle.jo_prog.specs.MethodTypes.{method_desc_in}
 use Rattle.jo_prog.specs.Typing.{Kind, Shape}
 use Rattle.jo_prog.specs.Shapes.{Need, Origin, Effect, kind_of_type, kind_from, after}
-use Rattle.jo_prog.specs.InsnTyping.{stack_effect, result_kind_of, result_kind, result_origins, effect_of}
+use Rattle.jo_prog.specs.InsnTyping.{stack_effect, result_kind_of, result_origins, effect_of}
 use Rattle.jo_prog.specs.TypingPaths.{shape_of, effect_at, successors_at, IsTypedMethod}
 use Rattle.jo_prog.specs.Values.{Value}
 use Rattle.jo_prog.specs.Machine.{Frame, Thread, HeapObject, State, info_at}
@@ -22,10 +22,10 @@ use Rattle.machine.specs.Instructions as code
 use Rattle.machine.specs.Instructions.{Instruction, instruction_at, method_desc, result_of}
 use Rattle.machine.specs.Execution as does
 use Rattle.machine.specs.Execution.{Ways, Fits, Outcome, cell_read, exec}
-use Rattle.machine.specs.Steps.{ways, fits, read_from, next_pc, result_on, resumed, with_written, applied, apply_outcome, fetched, executed, step}
-use Rattle.step_laws.specs.TypedStates.{PlaceHasKind, IsOnStack, Pairwise, no_more, one_more, HasShape, IsReady, IsWaiting, AreWaiting, AreFrames, IsTypedState}
+use Rattle.machine.specs.Steps.{ways, fits, read_from, next_pc, result_on, resumed, apply_outcome, executed, step}
+use Rattle.step_laws.specs.TypedStates.{PlaceHasKind, IsOnStack, Pairwise, one_more, HasShape, IsReady, IsWaiting, AreWaiting, AreFrames, IsTypedState}
 use Rattle.step_laws.specs.Premises.{HasSoundHierarchy}
-use Rattle.step_laws.specs.Effects.{HasEffect, IsResult, Follows, by_push, by_write, by_put, by_jump, by_raise, by_throw, by_new, by_return}
+use Rattle.step_laws.specs.Effects.{IsResult, Follows, by_push, by_write, by_put, by_jump, by_raise, by_throw, by_new, by_return}
 use Rattle.step_laws.specs.Tables.{HasSoundCode}
 use Rattle.step_laws.proofs.TypeLemmas.{never}
 use Rattle.step_laws.proofs.ExecLemmas.{instructions_go}
@@ -36,7 +36,6 @@ use Rattle.kept_laws.specs.Kept.{HasTypedStep}
 use Rattle.kept_laws.specs.Paths.{HasFirstPaths, AreAllTyped, prolonged_by}
 use Rattle.kept_laws.proofs.PathLemmas.{prolonged}
 use Rattle.kept_laws.proofs.ThreadLemmas.{frames_set}
-use Rattle.kept_laws.proofs.GrowthLemmas.{pairwise_append}
 use Rattle.kept_laws.proofs.StandLemmas.{StandsOn, code_is, not_wrong, insn_says, stands_on}
 use Rattle.kept_laws.proofs.TopLemmas.{has_effect, top_ready, by_top}
 use Rattle.kept_laws.proofs.CallLemmas.{on, call, effect_is, count_is, result_is}

@@ -1,8 +1,8 @@
 -- The instruction at which a frame stands, and what of its operands typing and the machine name alike.
-use Rattle.std.proofs.Common.{◌≡◌, ◌∙◌, ℕ, ◌^◌, Bool, true, false, not, ◌||◌, pos, List, [], ◌∷◌, length, Option, Some, None, Result, Ok, Err, refl, sym, ap, subst}
+use Rattle.std.proofs.Common.{◌≡◌, ◌∙◌, ℕ, ◌^◌, Bool, true, false, not, ◌||◌, pos, List, length, Option, Some, None, Result, Ok, Err, refl, sym, ap, subst}
 use Rattle.std.specs.Prelude.{◌==◌, ◌-◌, ◌-ℤ◌, nat_lt, is_some, if◌then◌else◌, option_map, option_and_then}
 use Rattle.std.specs.List.{list_any}
-use Rattle.std.proofs.lemmas.Bool.{cases_Bool, false_from_ne_true, or_parts, not-false, cond-true, eqb-true}
+use Rattle.std.proofs.lemmas.Bool.{false_from_ne_true, or_parts, not-false, cond-true, eqb-true}
 use Rattle.jo_text.specs.declared.descriptors.FieldDesc.{FieldDesc}
 use Rattle.jo_text.specs.declared.descriptors.MethodDesc.{MethodDesc}
 use Rattle.jo_insn.specs.Instructions.{decoded}
@@ -23,9 +23,9 @@ use Rattle.jo_prog.specs.Program.{method_at, code_at, operand_at}
 use Rattle.jo_prog.specs.MethodTypes.{field_desc_in, method_desc_in}
 use Rattle.jo_prog.specs.Operations.{within}
 use Rattle.jo_prog.specs.Typing.{Shape}
-use Rattle.jo_prog.specs.Shapes.{Effect, all_pass}
+use Rattle.jo_prog.specs.Shapes.{all_pass}
 use Rattle.jo_prog.specs.InsnTyping.{insn_at, as_placed, effect_of}
-use Rattle.jo_prog.specs.TypingPaths.{arrives_at, shape_of, effect_in, effect_at, falls_off, leads_outside, successors_at, handler_outside, local_passes, wrong_kind, MeetsAtEnd, IsTypedMethod, Typable}
+use Rattle.jo_prog.specs.TypingPaths.{arrives_at, effect_in, effect_at, falls_off, leads_outside, successors_at, handler_outside, local_passes, wrong_kind, MeetsAtEnd, IsTypedMethod, Typable}
 use Rattle.jo_prog.specs.Machine.{Frame}
 use Rattle.machine.specs.Instructions as code
 use Rattle.machine.specs.Instructions.{Instruction, result_of, returned, is_element_load, is_element_store, plain_instruction, local_instruction, pc_behind, jump_instruction, element_type, field_named, method_named, field_instruction, values_taken, names_field, names_method, names_member, names_type, pooled_instruction, method_desc, instruction_of, with_next, instruction_in, instruction_at}

@@ -1,10 +1,9 @@
 -- What is taken for a call that typing lets through, and what comes of it.
-use Rattle.std.proofs.Common.{◌≡◌, ◌⊎◌, ◌∙◌, ℕ, suc, zero, Bool, true, false, not, ◌&&◌, ◌||◌, List, [], ◌∷◌, ◌++◌, map, reverse, length, Option, Some, None, refl, sym, ap, subst, inl, inr}
-use Rattle.std.specs.Prelude.{◌==◌, is_some, slice_get, if◌then◌else◌, option_and_then, codes, FitsSigned}
-use Rattle.std.specs.Int.{w32}
+use Rattle.std.proofs.Common.{◌≡◌, ◌∙◌, ℕ, Bool, true, false, ◌&&◌, List, [], ◌∷◌, ◌++◌, map, Option, Some, None, refl, sym, ap, subst, inl, inr}
+use Rattle.std.specs.Prelude.{◌==◌, is_some, slice_get, if◌then◌else◌, codes}
 use Rattle.std.specs.Str.{bytes_eq}
 use Rattle.std.specs.Cmp.Lexicographic.{bytes_decides}
-use Rattle.std.proofs.lemmas.Bool.{cases_Bool, and_parts, or_cases, or_right, eqb-true, eq-eqb}
+use Rattle.std.proofs.lemmas.Bool.{and_parts, or_cases, or_right, eqb-true, eq-eqb}
 use Rattle.jo_text.specs.declared.descriptors.FieldDesc.{FieldDesc}
 use Rattle.jo_text.specs.declared.descriptors.MethodDesc.{MethodDesc}
 use Rattle.jo_text.specs.Scan.{read_field, read_base, letter_base}
@@ -17,37 +16,35 @@ use Rattle.jo_prog.specs.declared.labels.Label.{Label}
 use Rattle.jo_prog.specs.declared.labels.Label.TheVariants.{Source, Sink, Release}
 use Rattle.jo_prog.specs.declared.labels.Labels.{Labels}
 use Rattle.jo_prog.specs.declared.program.Program.{Program}
-use Rattle.jo_prog.specs.declared.program.Class.{Class}
 use Rattle.jo_prog.specs.declared.program.Code.{Code}
 use Rattle.jo_prog.specs.declared.program.Method.{Method}
 use Rattle.jo_prog.specs.declared.program.TypeRef.{TypeRef}
 use Rattle.jo_prog.specs.declared.program.TypeRef.TheVariants.{Class as OfClass, Array as OfArray}
-use Rattle.jo_prog.specs.declared.sites.Cause.TheVariants.{NullBase, SecondStart, MissingInterface}
-use Rattle.jo_prog.specs.Calls.{receiver_class, is_machine_method, taken_as, taken_if, taken_from, takes, run_of}
+use Rattle.jo_prog.specs.declared.sites.Cause.TheVariants.{SecondStart}
+use Rattle.jo_prog.specs.Calls.{receiver_class, is_machine_method, taken_if, taken_from, run_of}
 use Rattle.jo_prog.specs.Hierarchy.{is_subtype, is_static_method, search_from}
-use Rattle.jo_prog.specs.Labels.{label_of}
 use Rattle.jo_prog.specs.MethodTypes.{method_desc_in, params_from}
 use Rattle.jo_prog.specs.PlainCode.{desc_for}
 use Rattle.jo_prog.specs.PreludeClasses.{object_number, thread_number}
-use Rattle.jo_prog.specs.Program.{class_at, method_at}
+use Rattle.jo_prog.specs.Program.{method_at}
 use Rattle.jo_prog.specs.Types.{type_fits}
 use Rattle.jo_prog.specs.Typing.{Kind, Ref}
-use Rattle.jo_prog.specs.Shapes.{is_interface, takes_type, kind_of_type, need_of, OfEach, AnInt, Need}
+use Rattle.jo_prog.specs.Shapes.{is_interface, takes_type, kind_of_type, need_of}
 use Rattle.jo_prog.specs.InsnTyping.{receiver_kinds, param_kinds}
-use Rattle.jo_prog.specs.Values.{Value, int, null, ref, Info, object, array}
+use Rattle.jo_prog.specs.Values.{Value, ref, Info, object, array}
 use Rattle.jo_prog.specs.Machine.{HeapObject, State, info_of, info_at}
 use Rattle.machine.specs.Instructions.{method_desc, result_of}
-use Rattle.machine.specs.Invocation.{Callee, callee, Invoked, enters, begins, joins, asks, shows, releases, fails, class_of, type_of, natively, begun, by_taken, by_receiver, invoked}
+use Rattle.machine.specs.Invocation.{Callee, callee, enters, begins, joins, fails, class_of, type_of, begun, by_taken}
 use Rattle.machine.specs.Heaps.{was_started}
-use Rattle.step_laws.specs.TypedStates.{HasKind, an_int, an_object, PlaceHasKind, set, IsOnStack, Pairwise, no_more, one_more, has_objects, IsTypedObject, of_class, of_array, StandsAt, IsTypedState}
+use Rattle.step_laws.specs.TypedStates.{an_object, PlaceHasKind, set, Pairwise, no_more, one_more, IsTypedObject, of_class, of_array, StandsAt, IsTypedState}
 use Rattle.step_laws.specs.Premises.{HasSoundHierarchy}
 use Rattle.step_laws.specs.Needs.{Meets}
 use Rattle.step_laws.proofs.TypeLemmas.{never, above_object, fits_on}
 use Rattle.step_laws.proofs.ExecLemmas.{kind_dims}
 use Rattle.step_laws.proofs.ValueLemmas.{meets_kind}
-use Rattle.kept_laws.specs.Premises.{HasSoundMethods, HasThreadMethods, IsLabelled, AreNativesLabelled}
-use Rattle.kept_laws.specs.Calls.{TakesValues, IsInvoked, by_enter, by_begin, by_join, by_ask, by_show, by_release, by_fail, int_type, ComesTo}
-use Rattle.kept_laws.proofs.MemberLemmas.{Declares, Selects, selected}
+use Rattle.kept_laws.specs.Premises.{HasSoundMethods, HasThreadMethods, AreNativesLabelled}
+use Rattle.kept_laws.specs.Calls.{TakesValues, by_enter, by_begin, by_join, by_fail, int_type, ComesTo}
+use Rattle.kept_laws.proofs.MemberLemmas.{Declares, selected}
 
 same_some : {X : Type 0} {x y : X} → Some x ≡ Some y → x ≡ y
 same_some e = cc

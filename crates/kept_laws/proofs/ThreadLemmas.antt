@@ -1,6 +1,6 @@
 -- A typed state stays typed where a thread has other frames that are typed.
 use Rattle.std.proofs.Common.{◌≡◌, ◌∙◌, ℕ, List, Option, Some, refl, sym, ap, subst, inl, inr}
-use Rattle.std.specs.Prelude.{slice_get, slice_set}
+use Rattle.std.specs.Prelude.{slice_get}
 use Rattle.jo_prog.specs.declared.program.Program.{Program}
 use Rattle.jo_prog.specs.InsnTyping.{throwable}
 use Rattle.jo_prog.specs.Machine.{Frame, Thread, State}

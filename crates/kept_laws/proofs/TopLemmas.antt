@@ -1,5 +1,5 @@
 -- The step of a thread by the instruction at which its top frame stands.
-use Rattle.std.proofs.Common.{◌≡◌, ◌∙◌, ℕ, ◌≤◌, Bool, true, false, ◌||◌, List, [], ◌∷◌, Option, Some, None, Result, Ok, refl, sym, ap, subst, inl, inr, arith}
+use Rattle.std.proofs.Common.{◌≡◌, ◌∙◌, ℕ, ◌≤◌, Bool, true, false, List, ◌∷◌, Option, Some, None, Ok, refl, sym, ap, subst, inl, inr, arith}
 use Rattle.std.specs.Prelude.{◌==◌, nat_le, slice_get, if◌then◌else◌, option_map, option_and_then}
 use Rattle.std.proofs.lemmas.Bool.{cases_Bool, and_parts, leb-true, ne_eqb}
 use Rattle.jo_text.specs.declared.descriptors.MethodDesc.{MethodDesc}
@@ -25,7 +25,7 @@ use Rattle.jo_prog.specs.TypingPaths.{effect_at, IsTypedMethod}
 use Rattle.jo_prog.specs.Machine.{Frame, Thread, State}
 use Rattle.machine.specs.Instructions as code
 use Rattle.machine.specs.Instructions.{Instruction, method_named, values_taken, names_field, names_method, pooled_instruction, instruction_of, instruction_at}
-use Rattle.machine.specs.Steps.{fetched, executed, step_at, step_frames, step_thread, step}
+use Rattle.machine.specs.Steps.{step_at, step_frames, step_thread, step}
 use Rattle.step_laws.specs.TypedStates.{IsReady, AreWaiting, AreFrames, IsTypedState}
 use Rattle.step_laws.specs.Premises.{HasSoundHierarchy}
 use Rattle.step_laws.specs.Effects.{HasEffect}
@@ -38,7 +38,7 @@ use Rattle.kept_laws.specs.Going.{is_return, is_calling, HasRaisedClasses}
 use Rattle.kept_laws.specs.Kept.{HasTypedStep}
 use Rattle.kept_laws.specs.Paths.{HasFirstPaths}
 use Rattle.kept_laws.proofs.KeepLemmas.{executed_typed}
-use Rattle.kept_laws.proofs.StandLemmas.{StandsOn, code_is, not_wrong, ReadsAt, reads_at, stands_on}
+use Rattle.kept_laws.proofs.StandLemmas.{StandsOn, code_is, not_wrong, stands_on}
 
 same_some : {X : Type 0} {x y : X} → Some x ≡ Some y → x ≡ y
 same_some e = cc
@@ -144,8 +144,8 @@ module _ (program : Program) (s : State) (f : Frame) (typed : IsTypedMethod prog
       subst (λ (e : Effect). asks_nothing e.pops ≡ false) effect_is
       (asks_some program (effect_at program shown.typable f.pc).pops ready.shape.stack (all_right program s.heap f typed ready) (pops_there program s.heap f typed ready)) in
       let known = insn_effects program f.method shown.typable.method shown.is_typable.1 shown.typable.code.bytes f.pc insn read.1 read.3
-          (right.operands f.pc next insn (record { typable = shown.typable; is_typable = shown.is_typable; path = shown.path; is_path = shown.is_path; arrives = shown.arrives }) is_read)
-          no_call_there wrong some in
+      (right.operands f.pc next insn (record { typable = shown.typable; is_typable = shown.is_typable; path = shown.path; is_path = shown.is_path; arrives = shown.arrives }) is_read)
+      no_call_there wrong some in
       record { instruction = known.instruction; is_insn = known.is; has = subst (HasEffect program known.instruction) (sym effect_is) known.has }
 
   pub has_effect : HasSoundCode program f.method ready.has_shape.typable.code → (i : Instruction) (next : ℕ) (on : StandsOn program f ready.has_shape.typable i next) → is_calling i ≡ false

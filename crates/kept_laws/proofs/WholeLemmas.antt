@@ -1,5 +1,5 @@
 -- Every thread that may step has a next state, which is typed.
-use Rattle.std.proofs.Common.{◌≡◌, ◌⊎◌, ◌∙◌, ℕ, suc, zero, ◌+◌, ◌≤◌, Bool, true, false, List, [], ◌∷◌, ◌++◌, length, take, drop, Option, Some, None, Result, Ok, refl, sym, ap, subst, inl, inr, arith}
+use Rattle.std.proofs.Common.{◌≡◌, ◌∙◌, ℕ, suc, ◌+◌, ◌≤◌, Bool, true, false, List, [], ◌∷◌, ◌++◌, length, take, drop, Option, Some, None, Ok, refl, sym, ap, subst, inl, inr, arith}
 use Rattle.std.specs.Prelude.{◌==◌, ◌||◌, slice_get, if◌then◌else◌, option_map, option_and_then, Contains}
 use Rattle.std.proofs.lemmas.Bool.{cases_Bool, and_parts, or_cases, eqb-true}
 use mathlib.Core.List.{reverse}
@@ -9,19 +9,16 @@ use Rattle.jo_insn.specs.declared.instructions.Insn.{Insn}
 use Rattle.jo_insn.specs.declared.instructions.Insn.TheVariants.{Plain, Local, Iinc, Push, Pooled, Array, Jump, TableSwitch, LookupSwitch}
 use Rattle.jo_prog.specs.declared.labels.Labels.{Labels}
 use Rattle.jo_prog.specs.declared.program.Program.{Program}
-use Rattle.jo_prog.specs.declared.program.Code.{Code}
-use Rattle.jo_prog.specs.declared.program.Method.{Method}
 use Rattle.jo_prog.specs.declared.program.MemberRef.{MemberRef}
 use Rattle.jo_prog.specs.declared.program.TypeRef.{TypeRef}
 use Rattle.jo_prog.specs.declared.program.TypeRef.TheVariants.{Class as OfClass}
-use Rattle.jo_prog.specs.declared.program.Operand.{Operand}
 use Rattle.jo_prog.specs.declared.program.Operand.TheVariants.{Member}
 use Rattle.jo_prog.specs.declared.runs.SourceInput.{SourceInput}
 use Rattle.jo_prog.specs.MethodTypes.{method_desc_in}
 use Rattle.jo_prog.specs.Operations.{within}
 use Rattle.jo_prog.specs.Program.{method_at, code_at, operand_at}
 use Rattle.jo_prog.specs.Shapes.{Need, OfEach, Effect, is_interface, takes_type, fits_each}
-use Rattle.jo_prog.specs.InsnTyping.{argument_needs, special_types, receiver_needs, pooled_effect, effect_of}
+use Rattle.jo_prog.specs.InsnTyping.{argument_needs, special_types, receiver_needs, effect_of}
 use Rattle.jo_prog.specs.TypingPaths.{effect_at, IsTypedMethod}
 use Rattle.jo_prog.specs.Values.{Value, ref}
 use Rattle.jo_prog.specs.Machine.{Frame, Thread, State, popped, info_at}
@@ -31,19 +28,19 @@ use Rattle.machine.specs.Invocation.{Invoked, callee, type_of, invoked}
 use Rattle.machine.specs.Heaps.{was_started}
 use Rattle.machine.specs.Steps.{class_of_method, called, invoked_step, call_step, step}
 use Rattle.machine.specs.Runs.{may_step, enabled_from, enabled}
-use Rattle.step_laws.specs.TypedStates.{IsOnStack, Pairwise, one_more, HasShape, IsReady, StandsAt, AreWaiting, IsTypedState}
+use Rattle.step_laws.specs.TypedStates.{IsOnStack, Pairwise, one_more, HasShape, IsReady, StandsAt, IsTypedState}
 use Rattle.step_laws.specs.Effects.{ArePopped}
 use Rattle.step_laws.specs.Needs.{InfoMeets, StandsWith, Meets}
-use Rattle.step_laws.specs.Tables.{IsReached, is_call}
+use Rattle.step_laws.specs.Tables.{is_call}
 use Rattle.step_laws.proofs.TypeLemmas.{never}
 use Rattle.step_laws.proofs.FetchLemmas.{popped_is, pairwise_length, pairwise_drop, popped_given, pops_there, all_right}
 use Rattle.jo_prog.proofs.WalkLemmas.{none_there, head_or_behind}
 use Rattle.kept_laws.specs.Going.{is_return, is_calling}
 use Rattle.kept_laws.specs.Kept.{HasTypedStep}
 use Rattle.kept_laws.specs.Premises.{IsSoundCall, HasPremises}
-use Rattle.kept_laws.specs.Calls.{IsInvoked, ComesTo}
+use Rattle.kept_laws.specs.Calls.{ComesTo}
 use Rattle.kept_laws.proofs.UnwindLemmas.{unwinding_typed}
-use Rattle.kept_laws.proofs.StandLemmas.{IsCallOf, StandsOn, code_is, not_wrong, ReadsAt, reads_at}
+use Rattle.kept_laws.proofs.StandLemmas.{IsCallOf, code_is, not_wrong, ReadsAt, reads_at}
 use Rattle.kept_laws.proofs.TopLemmas.{within_parts, not_within, CallsMember, call_operand, insn_has_effect, top_ready, by_top, instruction_typed}
 use Rattle.kept_laws.proofs.ReturnLemmas.{return_typed}
 use Rattle.kept_laws.proofs.CallLemmas.{on, call, is_within, effect_is, count_is}

@@ -1,12 +1,11 @@
 -- What laws on calls and on whole states ask of a program, of its labels and of inputs: each is so in a program that was linked from class
 -- files and typed, under a policy without a fault (JVM Specification SE 8, 4.6, 5.4.3.3, 5.4.6 and 6.5; labels and inputs are this
 -- project's own).
-use Rattle.std.specs.Prelude.{◌≡◌, ℕ, Bool, true, false, ◌==◌, ◌||◌, List, Contains, Option, Some, Ok, FitsSigned}
+use Rattle.std.specs.Prelude.{◌≡◌, ℕ, true, false, ◌==◌, ◌||◌, List, Contains, Some, Ok, FitsSigned}
 use Rattle.std.specs.Int.{w32}
 use Rattle.jo_insn.specs.AccessFlags.{has_flag, static_flag}
 use Rattle.jo_insn.specs.Instructions.{decoded}
 use Rattle.jo_insn.specs.declared.instructions.Insn.TheVariants.{Pooled}
-use Rattle.jo_prog.specs.declared.calls.Taken.{Taken}
 use Rattle.jo_prog.specs.declared.calls.Taken.TheVariants.{Code as TakesCode, Start, Join, Native, Nothing}
 use Rattle.jo_prog.specs.declared.labels.Label.{Label}
 use Rattle.jo_prog.specs.declared.labels.Labels.{Labels}
