@@ -25,9 +25,6 @@ use Rattle.step_laws.proofs.TypeLemmas.{never}
 use Rattle.kept_laws.proofs.StandLemmas.{IsCallOf, insn_says, StandsOn, not_wrong, stands_on}
 use Rattle.kept_laws.proofs.MemberLemmas.{own_declared, resolved}
 
-same_some : {X : Type 0} {x y : X} → Some x ≡ Some y → x ≡ y
-same_some e = cc
-
 module _ (program : Program) where
   -- what is popped is counted alike
   pub count_popped : (op current : ℕ) (ref : MemberRef) (type : MethodDesc) → length (argument_needs program type.params ++ receiver_needs program op current ref) ≡ values_taken op type

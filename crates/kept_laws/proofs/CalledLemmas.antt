@@ -44,16 +44,13 @@ use Rattle.step_laws.specs.TypedStates.{PlaceHasKind, Pairwise, no_more, one_mor
 use Rattle.step_laws.specs.Premises.{HasSoundHierarchy}
 use Rattle.step_laws.specs.Needs.{InfoMeets, StandsWith, Meets, IsPlainNeed}
 use Rattle.step_laws.specs.Effects.{ArePopped}
-use Rattle.step_laws.proofs.TypeLemmas.{never, subtype_on, fits_on}
+use Rattle.step_laws.proofs.TypeLemmas.{never, subtype_on, fits_on, same_some}
 use Rattle.step_laws.proofs.ExecLemmas.{need_plain}
 use Rattle.step_laws.proofs.ValueLemmas.{place_meets}
 use Rattle.kept_laws.specs.Premises.{IsSoundCall, HasSoundMethods, HasThreadMethods, AreNativesLabelled}
 use Rattle.kept_laws.specs.Calls.{by_enter, by_ask, by_show, by_release, by_fail, int_type, ComesTo}
 use Rattle.kept_laws.proofs.MemberLemmas.{Declares, own_declared, Resolves, resolved, selected}
 use Rattle.kept_laws.proofs.TakenLemmas.{HasCode, tells, found_method, params_of, IsReceiver, label_type, label_shape, fits_above, class_below, fits_resolved, takes_fits, declared_receiver, instance_comes}
-
-same_some : {X : Type 0} {x y : X} → Some x ≡ Some y → x ≡ y
-same_some e = cc
 
 -- ---- the values of a call, in order
 

@@ -27,11 +27,8 @@ use Rattle.jo_prog.proofs.WalkLemmas.{here, behind, head_or_behind, none_there}
 use Rattle.machine.specs.Instructions as code
 use Rattle.machine.specs.Instructions.{Instruction, result_of, returned, is_element_load, is_element_store, plain_instruction, local_instruction, pc_behind, jump_instruction, keys_from, cases_of, element_type, field_named, method_named, field_instruction, values_taken, names_field, names_method, names_member, names_type, pooled_instruction, method_desc, instruction_of}
 use Rattle.step_laws.specs.Effects.{JumpsTo}
-use Rattle.step_laws.proofs.TypeLemmas.{never}
+use Rattle.step_laws.proofs.TypeLemmas.{never, same_some}
 use Rattle.kept_laws.specs.Going.{goes_elsewhere, LeadsOn}
-
-same_some : {X : Type 0} {x y : X} → Some x ≡ Some y → x ≡ y
-same_some e = cc
 
 -- ---- lists
 
@@ -66,7 +63,7 @@ second_of {X = X} {Y = Y} (x ∷ xs) (z ∷ zs) y c = elim (head_or_behind z (ma
 
 -- ---- the instruction by its opcode
 
-by_if : {Q : Type 0} {i : Instruction} (b : Bool) {x rest : Option Instruction} → (if b then x else rest) ≡ Some i → (x ≡ Some i → Q) → (rest ≡ Some i → Q) → Q
+pub by_if : {Q : Type 0} {i : Instruction} (b : Bool) {x rest : Option Instruction} → (if b then x else rest) ≡ Some i → (x ≡ Some i → Q) → (rest ≡ Some i → Q) → Q
 by_if true e f g = f e
 by_if false e f g = g e
 

@@ -1,5 +1,5 @@
 -- In a typed method the stack has one height at each pc.
-use Rattle.std.proofs.Common.{◌≡◌, ◌∙◌, ℕ, List, length, Some, refl, sym, ap, subst, inl, inr}
+use Rattle.std.proofs.Common.{◌≡◌, ◌∙◌, ℕ, List, length, refl, sym, ap, subst, inl, inr}
 use Rattle.std.proofs.lemmas.Bool.{cases_eq}
 use Rattle.jo_prog.specs.declared.program.Program.{Program}
 use Rattle.jo_prog.specs.declared.program.Code.{Code}
@@ -10,9 +10,7 @@ use Rattle.jo_prog.specs.TypingPaths.{Typable, Step, arrives_at, height_of, IsFi
 use Rattle.jo_prog.specs.Machine.{Frame, HeapObject}
 use Rattle.step_laws.specs.TypedStates.{IsOnStack, IsReady}
 use Rattle.step_laws.proofs.FetchLemmas.{pairwise_length}
-
-same_some : {X : Type 0} {x y : X} → Some x ≡ Some y → x ≡ y
-same_some e = cc
+use Rattle.step_laws.proofs.TypeLemmas.{same_some}
 
 -- a method is typable in one way
 same_typable : (program : Program) (m : ℕ) (t u : Typable) → IsTypable program m t → IsTypable program m u → t ≡ u

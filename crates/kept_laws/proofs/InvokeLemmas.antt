@@ -26,8 +26,8 @@ use Rattle.machine.specs.Heaps.{new_object, new_address, with_new, on_object, ma
 use Rattle.machine.specs.Steps.{with_frames, frame_of, new_frame, entered, thread_begun, with_thread, with_cursor, invoked_step}
 use Rattle.step_laws.specs.TypedStates.{PlaceHasKind, unset, set, an_int, IsOnStack, Pairwise, no_more, one_more, IsReady, IsWaiting, AreWaiting, StandsAt, IsStartedAt, IsTypedThread, IsTypedObject, of_class, of_array, IsTypedState}
 use Rattle.step_laws.specs.Premises.{HasSoundHierarchy}
-use Rattle.step_laws.proofs.TypeLemmas.{never}
-use Rattle.step_laws.proofs.KeptLemmas.{pairwise_map, place_kept, set_there, object_changed}
+use Rattle.step_laws.proofs.TypeLemmas.{never, same_some}
+use Rattle.step_laws.proofs.KeptLemmas.{pairwise_map, place_kept, set_there, changed_grows, object_changed}
 use Rattle.step_laws.proofs.NewLemmas.{new_kept, push_read}
 use Rattle.kept_laws.specs.Going.{HasRaisedClasses}
 use Rattle.kept_laws.specs.Kept.{HasTypedStep}
@@ -35,14 +35,11 @@ use Rattle.kept_laws.specs.Paths.{AreAllTyped}
 use Rattle.kept_laws.specs.Premises.{AreInts}
 use Rattle.kept_laws.specs.Calls.{TakesValues, IsInvoked, by_enter, by_begin, by_join, by_ask, by_show, by_release, by_fail, int_type}
 use Rattle.kept_laws.proofs.ThreadLemmas.{frames_set, before}
-use Rattle.kept_laws.proofs.GrowthLemmas.{pushed_there, pairwise_append, changed_grows, IsGrown, not_grown, new_grown}
+use Rattle.kept_laws.proofs.GrowthLemmas.{pushed_there, pairwise_append, IsGrown, not_grown, new_grown}
 use Rattle.kept_laws.proofs.KeepLemmas.{waiting_there, same_locals, rest_there, is_left}
 use Rattle.kept_laws.proofs.KeepLemmas
 use Rattle.kept_laws.proofs.ReturnLemmas.{goes_behind}
 use Rattle.kept_laws.proofs.CallLemmas.{on, call, effect_is, count_is, result_is}
-
-same_some : {X : Type 0} {x y : X} → Some x ≡ Some y → x ≡ y
-same_some e = cc
 
 -- ---- a frame that begins
 

@@ -21,7 +21,7 @@ use Rattle.step_laws.specs.TypedStates.{an_object, PlaceHasKind, set, IsOnStack,
 use Rattle.step_laws.specs.Premises.{HasSoundHierarchy}
 use Rattle.step_laws.specs.Growth.{CanBeMade}
 use Rattle.step_laws.specs.Effects.{HasEffect, IsMade, Follows, by_push, by_write, by_put, by_jump, by_raise, by_throw, by_new, by_return}
-use Rattle.step_laws.proofs.TypeLemmas.{never}
+use Rattle.step_laws.proofs.TypeLemmas.{never, same_some}
 use Rattle.step_laws.proofs.ExecLemmas.{instructions_go}
 use Rattle.step_laws.proofs.KeptLemmas.{pairwise_map, place_kept, stack_kept, all_waiting_kept, written_kept}
 use Rattle.step_laws.proofs.NewLemmas.{new_kept}
@@ -33,9 +33,6 @@ use Rattle.kept_laws.proofs.PathLemmas.{prolonged}
 use Rattle.kept_laws.proofs.ThreadLemmas.{frames_set}
 use Rattle.kept_laws.proofs.OutcomeLemmas.{goes_away, lands, no_return}
 use Rattle.kept_laws.proofs.GrowthLemmas.{pushed_there, pairwise_append, pairwise_set, IsGrown, not_grown, written_grown, new_grown}
-
-same_some : {X : Type 0} {x y : X} → Some x ≡ Some y → x ≡ y
-same_some e = cc
 
 -- the frame at another pc, with other values
 abbrev moved : Frame → ℕ → List (Option (Value ℕ)) → List (Value ℕ) → Frame

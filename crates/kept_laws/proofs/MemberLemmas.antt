@@ -3,7 +3,6 @@ use Rattle.std.proofs.Common.{◌≡◌, ◌∙◌, ℕ, Bool, true, false, List
 use Rattle.std.specs.Prelude.{if◌then◌else◌, option_and_then, Contains}
 use Rattle.std.specs.List.{flat_map}
 use Rattle.std.specs.Str.{bytes_eq}
-use Rattle.std.specs.Cmp.Lexicographic.{bytes_decides}
 use Rattle.std.proofs.lemmas.Bool.{and_parts}
 use Rattle.std.proofs.lemmas.List.Elements.{Contains-append_cases}
 use Rattle.jo_ids.specs.Path.{stays, goes}
@@ -16,13 +15,8 @@ use Rattle.jo_prog.specs.Walks.{walk, first_found}
 use Rattle.jo_prog.specs.Hierarchy.{superclass_of, interfaces_of, most_steps, Subtype, is_subtype, superclasses, superinterfaces, method_order, own_method, resolve_method, is_static_method, unless_static, own_instance_method, search_from, HasNoCycle}
 use Rattle.jo_prog.proofs.WalkLemmas.{here, behind, in_flat_map, walk_reaches, is_first}
 use Rattle.jo_prog.proofs.HierarchyLemmas.{from_interfaces, from_superclass, subtype_every}
+use Rattle.step_laws.proofs.TypeLemmas.{same_some, same_bytes}
 use Rattle.std.proofs.lemmas.List.Elements.{Contains-append_right}
-
-same_some : {X : Type 0} {x y : X} → Some x ≡ Some y → x ≡ y
-same_some e = cc
-
-same_bytes : (a b : List ℕ) → bytes_eq a b ≡ true → a ≡ b
-same_bytes a b e = (bytes_decides a b).0 e
 
 -- ---- what a class declares
 

@@ -8,11 +8,8 @@ use Rattle.machine.specs.Instructions.{Instruction}
 use Rattle.machine.specs.Execution as does
 use Rattle.machine.specs.Execution.{Ways, Fits, Outcome, exec}
 use Rattle.step_laws.specs.Effects.{IsResult}
-use Rattle.step_laws.proofs.TypeLemmas.{never}
+use Rattle.step_laws.proofs.TypeLemmas.{never, same_some}
 use Rattle.kept_laws.specs.Going.{goes_elsewhere, is_return}
-
-same_some : {X : Type 0} {x y : X} → Some x ≡ Some y → x ≡ y
-same_some e = cc
 
 -- the frame doesn't go on at the pc behind the instruction
 abbrev pub goes_away : does.Effect ℕ → Bool

@@ -27,7 +27,7 @@ use Rattle.step_laws.specs.TypedStates.{PlaceHasKind, IsOnStack, Pairwise, one_m
 use Rattle.step_laws.specs.Premises.{HasSoundHierarchy}
 use Rattle.step_laws.specs.Effects.{IsResult, Follows, by_push, by_write, by_put, by_jump, by_raise, by_throw, by_new, by_return}
 use Rattle.step_laws.specs.Tables.{HasSoundCode}
-use Rattle.step_laws.proofs.TypeLemmas.{never}
+use Rattle.step_laws.proofs.TypeLemmas.{never, same_some}
 use Rattle.step_laws.proofs.ExecLemmas.{instructions_go}
 use Rattle.step_laws.proofs.FetchLemmas.{frame_gives}
 use Rattle.step_laws.proofs.StepLemmas.{no_call}
@@ -39,9 +39,6 @@ use Rattle.kept_laws.proofs.ThreadLemmas.{frames_set}
 use Rattle.kept_laws.proofs.StandLemmas.{StandsOn, code_is, not_wrong, insn_says, stands_on}
 use Rattle.kept_laws.proofs.TopLemmas.{has_effect, top_ready, by_top}
 use Rattle.kept_laws.proofs.CallLemmas.{on, call, effect_is, count_is, result_is}
-
-same_some : {X : Type 0} {x y : X} → Some x ≡ Some y → x ≡ y
-same_some e = cc
 
 -- ---- the frame behind an instruction that writes no local
 

@@ -1,5 +1,5 @@
 -- The instruction at which a frame stands, and what of its operands typing and the machine name alike.
-use Rattle.std.proofs.Common.{◌≡◌, ◌∙◌, ℕ, ◌^◌, Bool, true, false, not, ◌||◌, pos, List, length, Option, Some, None, Result, Ok, Err, refl, sym, ap, subst}
+use Rattle.std.proofs.Common.{◌≡◌, ◌∙◌, ℕ, ◌^◌, Bool, true, false, not, ◌||◌, pos, List, length, Option, Some, None, Ok, refl, sym, ap, subst}
 use Rattle.std.specs.Prelude.{◌==◌, ◌-◌, ◌-ℤ◌, nat_lt, is_some, if◌then◌else◌, option_map, option_and_then}
 use Rattle.std.specs.List.{list_any}
 use Rattle.std.proofs.lemmas.Bool.{false_from_ne_true, or_parts, not-false, cond-true, eqb-true}
@@ -8,7 +8,6 @@ use Rattle.jo_text.specs.declared.descriptors.MethodDesc.{MethodDesc}
 use Rattle.jo_insn.specs.Instructions.{decoded}
 use Rattle.jo_insn.specs.declared.instructions.Insn.{Insn}
 use Rattle.jo_insn.specs.declared.instructions.Insn.TheVariants.{Plain, Local, Iinc, Push, Pooled, Array, Jump, TableSwitch, LookupSwitch}
-use Rattle.jo_insn.specs.declared.instructions.InsnFault.{InsnFault}
 use Rattle.jo_prog.specs.declared.program.Program.{Program}
 use Rattle.jo_prog.specs.declared.program.Code.{Code}
 use Rattle.jo_prog.specs.declared.program.Method.{Method}
@@ -31,14 +30,9 @@ use Rattle.machine.specs.Instructions as code
 use Rattle.machine.specs.Instructions.{Instruction, result_of, returned, is_element_load, is_element_store, plain_instruction, local_instruction, pc_behind, jump_instruction, element_type, field_named, method_named, field_instruction, values_taken, names_field, names_method, names_member, names_type, pooled_instruction, method_desc, instruction_of, with_next, instruction_in, instruction_at}
 use Rattle.step_laws.specs.TypedStates.{HasShape}
 use Rattle.kept_laws.specs.Going.{LeadsOn}
-use Rattle.kept_laws.proofs.GoingLemmas.{leads_on}
-
-same_some : {X : Type 0} {x y : X} → Some x ≡ Some y → x ≡ y
-same_some e = cc
-
-by_if : {Q : Type 0} {i : Instruction} (b : Bool) {x rest : Option Instruction} → (if b then x else rest) ≡ Some i → (x ≡ Some i → Q) → (rest ≡ Some i → Q) → Q
-by_if true e f g = f e
-by_if false e f g = g e
+use Rattle.step_laws.proofs.StepLemmas.{insn_there}
+use Rattle.step_laws.proofs.TypeLemmas.{same_some}
+use Rattle.kept_laws.proofs.GoingLemmas.{by_if, leads_on}
 
 -- ---- what an instruction says of the bytes it was read from
 
@@ -170,15 +164,6 @@ pub record StandsOn (program : Program) (f : Frame) (t : Typable) (i : Instructi
   pub effect_is : effect_at program t f.pc ≡ effect_of program f.method t.method insn
   pub leads : LeadsOn t.code f.pc next i
   pub at : instruction_at program f.method f.pc ≡ Some (i, next)
-
-insn_there : (of : Code) (pc : ℕ) → is_some (insn_at of pc) ≡ true → (insn : Insn) × (next : ℕ) × (nat_lt (length of.bytes) (2 ^ 16) ≡ true) × (decoded of.bytes pc ≡ Ok (insn, next))
-insn_there of pc h = by_tests (nat_lt (length of.bytes) (2 ^ 16)) (decoded of.bytes pc) refl refl h
-  where
-    by_tests : (b : Bool) (r : Result (Insn × ℕ) InsnFault) → nat_lt (length of.bytes) (2 ^ 16) ≡ b → decoded of.bytes pc ≡ r → is_some (if b then as_placed pc r else None) ≡ true
-        → (insn : Insn) × (next : ℕ) × (nat_lt (length of.bytes) (2 ^ 16) ≡ true) × (decoded of.bytes pc ≡ Ok (insn, next))
-    by_tests true (Ok found) short is h = (found.0, found.1, short, is)
-    by_tests true (Err fault) short is h = absurd (cc)
-    by_tests false r short is h = absurd (cc)
 
 module _ (program : Program) (f : Frame) (shape : Shape) (shown : HasShape program f shape) (typed : IsTypedMethod program f.method) where
   no_fault : (fault : TypeCode) → MeetsAtEnd program shown.typable shown.path fault → ⊥

@@ -2,7 +2,6 @@
 use Rattle.std.proofs.Common.{◌≡◌, ◌∙◌, ℕ, Bool, true, false, ◌&&◌, List, [], ◌∷◌, ◌++◌, map, Option, Some, None, refl, sym, ap, subst, inl, inr}
 use Rattle.std.specs.Prelude.{◌==◌, is_some, slice_get, if◌then◌else◌, codes}
 use Rattle.std.specs.Str.{bytes_eq}
-use Rattle.std.specs.Cmp.Lexicographic.{bytes_decides}
 use Rattle.std.proofs.lemmas.Bool.{and_parts, or_cases, or_right, eqb-true, eq-eqb}
 use Rattle.jo_text.specs.declared.descriptors.FieldDesc.{FieldDesc}
 use Rattle.jo_text.specs.declared.descriptors.MethodDesc.{MethodDesc}
@@ -39,18 +38,12 @@ use Rattle.machine.specs.Heaps.{was_started}
 use Rattle.step_laws.specs.TypedStates.{an_object, PlaceHasKind, set, Pairwise, no_more, one_more, IsTypedObject, of_class, of_array, StandsAt, IsTypedState}
 use Rattle.step_laws.specs.Premises.{HasSoundHierarchy}
 use Rattle.step_laws.specs.Needs.{Meets}
-use Rattle.step_laws.proofs.TypeLemmas.{never, above_object, fits_on}
+use Rattle.step_laws.proofs.TypeLemmas.{never, above_object, fits_on, same_some, same_bytes}
 use Rattle.step_laws.proofs.ExecLemmas.{kind_dims}
 use Rattle.step_laws.proofs.ValueLemmas.{meets_kind}
 use Rattle.kept_laws.specs.Premises.{HasSoundMethods, HasThreadMethods, AreNativesLabelled}
 use Rattle.kept_laws.specs.Calls.{TakesValues, by_enter, by_begin, by_join, by_fail, int_type, ComesTo}
 use Rattle.kept_laws.proofs.MemberLemmas.{Declares, selected}
-
-same_some : {X : Type 0} {x y : X} → Some x ≡ Some y → x ≡ y
-same_some e = cc
-
-same_bytes : (a b : List ℕ) → bytes_eq a b ≡ true → a ≡ b
-same_bytes a b e = (bytes_decides a b).0 e
 
 -- ---- what is taken for a method
 

@@ -30,7 +30,7 @@ use Rattle.step_laws.specs.TypedStates.{IsReady, AreWaiting, AreFrames, IsTypedS
 use Rattle.step_laws.specs.Premises.{HasSoundHierarchy}
 use Rattle.step_laws.specs.Effects.{HasEffect}
 use Rattle.step_laws.specs.Tables.{asks_nothing, is_call, HasSoundCode}
-use Rattle.step_laws.proofs.TypeLemmas.{never}
+use Rattle.step_laws.proofs.TypeLemmas.{never, same_some}
 use Rattle.step_laws.proofs.FetchLemmas.{pops_there, all_right}
 use Rattle.step_laws.proofs.StepLemmas.{asks_some, no_call}
 use Rattle.step_laws.proofs.TableLemmas.{insn_effects}
@@ -39,9 +39,6 @@ use Rattle.kept_laws.specs.Kept.{HasTypedStep}
 use Rattle.kept_laws.specs.Paths.{HasFirstPaths}
 use Rattle.kept_laws.proofs.KeepLemmas.{executed_typed}
 use Rattle.kept_laws.proofs.StandLemmas.{StandsOn, code_is, not_wrong, stands_on}
-
-same_some : {X : Type 0} {x y : X} → Some x ≡ Some y → x ≡ y
-same_some e = cc
 
 -- ---- a call of the class file is one of the machine
 

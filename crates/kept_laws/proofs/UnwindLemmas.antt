@@ -25,16 +25,13 @@ use Rattle.jo_prog.specs.Machine.{Frame, Thread, State, info_of, info_at}
 use Rattle.machine.specs.Invocation.{class_of, type_of}
 use Rattle.machine.specs.Steps.{at_pc, caught, rows_of, unwound, step_frames, step_thread, step}
 use Rattle.step_laws.specs.TypedStates.{an_object, set, no_more, one_more, has_dims, IsReady, IsLeft, AreWaiting, AreFrames, StandsAt, IsTypedState}
-use Rattle.step_laws.proofs.TypeLemmas.{never}
+use Rattle.step_laws.proofs.TypeLemmas.{never, same_some}
 use Rattle.kept_laws.specs.Paths.{HasFirstPaths}
 use Rattle.kept_laws.specs.Kept.{HasTypedStep}
 use Rattle.kept_laws.proofs.PathLemmas.{prolonged}
 use Rattle.kept_laws.proofs.ThreadLemmas.{frames_set}
 
 -- ---- rows
-
-same_some : {X : Type 0} {x y : X} → Some x ≡ Some y → x ≡ y
-same_some e = cc
 
 none_of : {X : Type 0} (P : X → Bool) (xs : List X) (k : ℕ) (x : X) → list_any P xs ≡ false → slice_get xs k ≡ Some x → P x ≡ false
 none_of P [] k x h e = absurd (cc)

@@ -32,7 +32,7 @@ use Rattle.step_laws.specs.TypedStates.{IsOnStack, Pairwise, one_more, HasShape,
 use Rattle.step_laws.specs.Effects.{ArePopped}
 use Rattle.step_laws.specs.Needs.{InfoMeets, StandsWith, Meets}
 use Rattle.step_laws.specs.Tables.{is_call}
-use Rattle.step_laws.proofs.TypeLemmas.{never}
+use Rattle.step_laws.proofs.TypeLemmas.{never, same_some}
 use Rattle.step_laws.proofs.FetchLemmas.{popped_is, pairwise_length, pairwise_drop, popped_given, pops_there, all_right}
 use Rattle.jo_prog.proofs.WalkLemmas.{none_there, head_or_behind}
 use Rattle.kept_laws.specs.Going.{is_return, is_calling}
@@ -47,9 +47,6 @@ use Rattle.kept_laws.proofs.CallLemmas.{on, call, is_within, effect_is, count_is
 use Rattle.kept_laws.proofs.InvokeLemmas.{invoked_typed}
 use Rattle.kept_laws.proofs.TakenLemmas.{takes_fits}
 use Rattle.kept_laws.proofs.CalledLemmas.{asked, given_in_order, comes}
-
-same_some : {X : Type 0} {x y : X} → Some x ≡ Some y → x ≡ y
-same_some e = cc
 
 -- ---- a thread whose top frame stands at a call
 

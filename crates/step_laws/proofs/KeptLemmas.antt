@@ -156,7 +156,7 @@ state_kept program s heap statics state grows objects same given = record {
 
 -- ---- an object whose content changes
 
-changed_grows : (heap : List HeapObject) (a : ℕ) (o o' : HeapObject) → slice_get heap a ≡ Some o → o'.info ≡ o.info → (o.started ≡ true → o'.started ≡ true) → GrowsTo heap (slice_set heap a o')
+pub changed_grows : (heap : List HeapObject) (a : ℕ) (o o' : HeapObject) → slice_get heap a ≡ Some o → o'.info ≡ o.info → (o.started ≡ true → o'.started ≡ true) → GrowsTo heap (slice_set heap a o')
 changed_grows heap a o o' is info started = record { keeps = λ b p at. by_place b p at (cases_eq b a) }
   where
     by_place : (b : ℕ) (p : HeapObject) → slice_get heap b ≡ Some p → (b ≡ a) ⊎ (b ≡ a → ⊥) → StillStands (slice_set heap a o') b p

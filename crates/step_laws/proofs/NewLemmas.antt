@@ -44,7 +44,7 @@ replicated zero x k y e = absurd (cc)
 replicated (suc n) x zero y e = same_some e
 replicated (suc n) x (suc k) y e = replicated n x k y e
 
-push_kept : {X : Type 0} (xs : List X) (y : X) (k : ℕ) (x : X) → slice_get xs k ≡ Some x → slice_get (xs ++ y ∷ []) k ≡ Some x
+pub push_kept : {X : Type 0} (xs : List X) (y : X) (k : ℕ) (x : X) → slice_get xs k ≡ Some x → slice_get (xs ++ y ∷ []) k ≡ Some x
 push_kept [] y k x e = absurd (cc)
 push_kept (z ∷ zs) y zero x e = e
 push_kept (z ∷ zs) y (suc k) x e = push_kept zs y k x e

@@ -107,7 +107,7 @@ asks_some program (need ∷ needs) (kind ∷ kinds) p enough =
 
 -- ---- the instruction at a pc
 
-insn_there : (code : Code) (pc : ℕ) → is_some (insn_at code pc) ≡ true → (insn : Insn) × (next : ℕ) × (nat_lt (length code.bytes) (2 ^ 16) ≡ true) × (decoded code.bytes pc ≡ Ok (insn, next))
+pub insn_there : (code : Code) (pc : ℕ) → is_some (insn_at code pc) ≡ true → (insn : Insn) × (next : ℕ) × (nat_lt (length code.bytes) (2 ^ 16) ≡ true) × (decoded code.bytes pc ≡ Ok (insn, next))
 insn_there code pc h = by_tests (nat_lt (length code.bytes) (2 ^ 16)) (decoded code.bytes pc) refl refl h
   where
     by_tests : (b : Bool) (r : Result (Insn × ℕ) InsnFault) → nat_lt (length code.bytes) (2 ^ 16) ≡ b → decoded code.bytes pc ≡ r → is_some (if b then as_placed pc r else None) ≡ true

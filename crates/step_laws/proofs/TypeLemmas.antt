@@ -27,6 +27,9 @@ use Rattle.step_laws.specs.Premises.{HasSoundHierarchy, IsBelowObject}
 pub never : {X : Type 0} → false ≡ true → X
 never e = absurd (false≢true e)
 
+pub same_some : {X : Type 0} {x y : X} → Some x ≡ Some y → x ≡ y
+same_some e = cc
+
 -- ---- a class by its name
 
 found_from : {X : Type 0} (test : X → Bool) (xs : List X) (first k : ℕ) → position_from test first xs ≡ Some k
@@ -48,7 +51,7 @@ found_from {X = X} test (x ∷ xs) first k e = by_test (test x) refl e (λ later
         let same : k - first ≡ suc (k - (first + 1)) = omega (arith, later.3) in
         (later.0, rw same later.1, later.2, omega (arith, later.3))
 
-same_bytes : (a b : List ℕ) → bytes_eq a b ≡ true → a ≡ b
+pub same_bytes : (a b : List ℕ) → bytes_eq a b ≡ true → a ≡ b
 same_bytes a b e = (bytes_decides a b).0 e
 
 -- the class of a name has that name
