@@ -26,7 +26,8 @@ use Rattle.step_laws.proofs.ExecLemmas.{instructions_go}
 use Rattle.step_laws.proofs.KeptLemmas.{pairwise_map, place_kept, stack_kept, all_waiting_kept, written_kept}
 use Rattle.step_laws.proofs.NewLemmas.{new_kept}
 use Rattle.step_laws.proofs.FetchLemmas.{frame_gives}
-use Rattle.kept_laws.specs.Paths.{HasFirstPaths, prolonged_by}
+use Rattle.kept_laws.specs.Paths.{prolonged_by}
+use Rattle.typing_heights.specs.FirstPaths.{HasFirstPaths}
 use Rattle.kept_laws.specs.Kept.{HasTypedStep}
 use Rattle.kept_laws.specs.Going.{goes_elsewhere, is_return, LeadsOn, HasRaisedClasses}
 use Rattle.kept_laws.proofs.PathLemmas.{prolonged}

@@ -5,7 +5,8 @@ use Rattle.jo_prog.specs.declared.program.Program.{Program}
 use Rattle.jo_prog.specs.declared.typed.TypeCode.{TypeCode}
 use Rattle.jo_prog.specs.declared.typed.TypeCode.TheVariants.{Underflow, Overflow, HeightDiffers, FallsOff}
 use Rattle.jo_prog.specs.TypingPaths.{Typable, Step, arrives_at, height_of, underflows, overflows, falls_off, ends_at, shorter, IsFirst, IsTypable, TypingPath, PathWithin, GoesOn, TakesStep, MeetsAtEnd, IsTypedMethod}
-use Rattle.kept_laws.specs.Paths.{HasFirstPaths, prolonged_by}
+use Rattle.kept_laws.specs.Paths.{prolonged_by}
+use Rattle.typing_heights.specs.FirstPaths.{HasFirstPaths}
 
 -- ---- paths of at most so many steps
 

@@ -33,7 +33,8 @@ use Rattle.step_laws.proofs.FetchLemmas.{frame_gives}
 use Rattle.step_laws.proofs.StepLemmas.{no_call}
 use Rattle.kept_laws.specs.Going.{is_return, is_calling}
 use Rattle.kept_laws.specs.Kept.{HasTypedStep}
-use Rattle.kept_laws.specs.Paths.{HasFirstPaths, AreAllTyped, prolonged_by}
+use Rattle.kept_laws.specs.Paths.{AreAllTyped, prolonged_by}
+use Rattle.typing_heights.specs.FirstPaths.{HasFirstPaths}
 use Rattle.kept_laws.proofs.PathLemmas.{prolonged}
 use Rattle.kept_laws.proofs.ThreadLemmas.{frames_set}
 use Rattle.kept_laws.proofs.StandLemmas.{StandsOn, code_is, not_wrong, insn_says, stands_on}

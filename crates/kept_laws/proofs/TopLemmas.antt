@@ -36,7 +36,7 @@ use Rattle.step_laws.proofs.StepLemmas.{asks_some, no_call}
 use Rattle.step_laws.proofs.TableLemmas.{insn_effects}
 use Rattle.kept_laws.specs.Going.{is_return, is_calling, HasRaisedClasses}
 use Rattle.kept_laws.specs.Kept.{HasTypedStep}
-use Rattle.kept_laws.specs.Paths.{HasFirstPaths}
+use Rattle.typing_heights.specs.FirstPaths.{HasFirstPaths}
 use Rattle.kept_laws.proofs.KeepLemmas.{executed_typed}
 use Rattle.kept_laws.proofs.StandLemmas.{StandsOn, code_is, not_wrong, stands_on}
 

@@ -26,7 +26,7 @@ use Rattle.machine.specs.Invocation.{class_of, type_of}
 use Rattle.machine.specs.Steps.{at_pc, caught, rows_of, unwound, step_frames, step_thread, step}
 use Rattle.step_laws.specs.TypedStates.{an_object, set, no_more, one_more, has_dims, IsReady, IsLeft, AreWaiting, AreFrames, StandsAt, IsTypedState}
 use Rattle.step_laws.proofs.TypeLemmas.{never, same_some}
-use Rattle.kept_laws.specs.Paths.{HasFirstPaths}
+use Rattle.typing_heights.specs.FirstPaths.{HasFirstPaths}
 use Rattle.kept_laws.specs.Kept.{HasTypedStep}
 use Rattle.kept_laws.proofs.PathLemmas.{prolonged}
 use Rattle.kept_laws.proofs.ThreadLemmas.{frames_set}

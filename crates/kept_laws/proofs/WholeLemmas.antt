@@ -3,6 +3,7 @@ use Rattle.std.proofs.Common.{◌≡◌, ◌∙◌, ℕ, suc, ◌+◌, ◌≤◌
 use Rattle.std.specs.Prelude.{◌==◌, ◌||◌, slice_get, if◌then◌else◌, option_map, option_and_then, Contains}
 use Rattle.std.proofs.lemmas.Bool.{cases_Bool, and_parts, or_cases, eqb-true}
 use mathlib.Core.List.{reverse}
+use Rattle.jo_text.specs.declared.descriptors.FieldDesc.{FieldDesc}
 use Rattle.jo_text.specs.declared.descriptors.MethodDesc.{MethodDesc}
 use Rattle.jo_insn.specs.Instructions.{decoded}
 use Rattle.jo_insn.specs.declared.instructions.Insn.{Insn}
@@ -23,7 +24,7 @@ use Rattle.jo_prog.specs.TypingPaths.{effect_at, IsTypedMethod}
 use Rattle.jo_prog.specs.Values.{Value, ref}
 use Rattle.jo_prog.specs.Machine.{Frame, Thread, State, popped, info_at}
 use Rattle.machine.specs.Instructions as code
-use Rattle.machine.specs.Instructions.{Instruction, method_named, values_taken, names_field, names_method, instruction_of, instruction_at, pooled_instruction}
+use Rattle.machine.specs.Instructions.{Instruction, method_named, values_taken, names_field, names_method, instruction_of, instruction_at, pooled_instruction, method_desc, result_of}
 use Rattle.machine.specs.Invocation.{Invoked, callee, type_of, invoked}
 use Rattle.machine.specs.Heaps.{was_started}
 use Rattle.machine.specs.Steps.{class_of_method, called, invoked_step, call_step, step}
@@ -43,7 +44,7 @@ use Rattle.kept_laws.proofs.UnwindLemmas.{unwinding_typed}
 use Rattle.kept_laws.proofs.StandLemmas.{IsCallOf, code_is, not_wrong, ReadsAt, reads_at}
 use Rattle.kept_laws.proofs.TopLemmas.{within_parts, not_within, CallsMember, call_operand, insn_has_effect, top_ready, by_top, instruction_typed}
 use Rattle.kept_laws.proofs.ReturnLemmas.{return_typed}
-use Rattle.kept_laws.proofs.CallLemmas.{on, call, is_within, effect_is, count_is}
+use Rattle.kept_laws.proofs.CallLemmas.{on, call, is_within, effect_is, count_is, result_is}
 use Rattle.kept_laws.proofs.InvokeLemmas.{invoked_typed}
 use Rattle.kept_laws.proofs.TakenLemmas.{takes_fits}
 use Rattle.kept_laws.proofs.CalledLemmas.{asked, given_in_order, comes}
@@ -127,6 +128,15 @@ module _ (program : Program) (labels : Labels) (inputs : List SourceInput) (prem
         (invoked_typed program premises.hierarchy premises.raised premises.all_typed inputs premises.ints s state t thread at f below ready
         (top_ready program labels inputs s state t thread f below at none frames).1 op owner named count next at_call (drop count f.stack)
         (pairwise_drop (IsOnStack program s.heap) count ready.shape.stack f.stack ready.stack) outcome.outcome outcome.follows)))
+
+    -- in the terms of the method that is named
+    pub come_to : (values rest : List (Value ℕ)) → popped count f.stack ≡ Some (values, rest)
+        → ComesTo program s (result_of (method_desc (method_at program named))) (called program labels s f.method op owner named values)
+    come_to values rest is_popped =
+        let same : take count f.stack ≡ values = ap (λ (p : List (Value ℕ) × List (Value ℕ)). p.0) (same_some (sym (popped_is count f.stack enough) ∙ is_popped)) in
+        subst (λ (vs : List (Value ℕ)). ComesTo program s (result_of (method_desc (method_at program named))) (called program labels s f.method op owner named vs)) same
+        (subst (λ (type : Option FieldDesc). ComesTo program s type (called program labels s f.method op owner named (take count f.stack)))
+        (sym (result_is program premises.hierarchy.no_cycle f ready.shape shown typed op owner named count next at_call)) outcome)
 
     -- ---- its receiver
 

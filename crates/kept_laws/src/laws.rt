@@ -6,23 +6,25 @@ ghost use Rattle.jo_prog.specs.declared.program.Code.{Code};
 ghost use Rattle.jo_prog.specs.InsnTyping.{insn_at};
 ghost use Rattle.jo_prog.specs.declared.program.Program.{Program};
 ghost use Rattle.jo_prog.specs.declared.runs.SourceInput.{SourceInput};
-ghost use Rattle.jo_prog.specs.Program.{code_at};
+ghost use Rattle.jo_prog.specs.Program.{method_at, code_at};
 ghost use Rattle.jo_prog.specs.Machine.{Frame, Thread, HeapObject, State, popped};
 ghost use Rattle.jo_prog.specs.InsnTyping.{throwable};
 ghost use Rattle.jo_prog.specs.Values.{Value, ref};
 ghost use mathlib.Core.List.{reverse};
 ghost use Rattle.jo_prog.specs.TypingPaths.{Typable, Step, IsTypable, IsTypedMethod, TypingPath, TakesStep, HasHeightAt, arrives_at};
 ghost use Rattle.jo_prog.specs.TypingPaths.{effect_at, leads_outside, successors_at};
-ghost use Rattle.machine.specs.Instructions.{Instruction, calls, instruction_of, instruction_at};
-ghost use Rattle.machine.specs.Steps.{fetched, executed, step};
+ghost use Rattle.machine.specs.Instructions.{Instruction, calls, instruction_of, instruction_at, method_desc, result_of};
+ghost use Rattle.machine.specs.Steps.{fetched, executed, called, step};
 ghost use Rattle.step_laws.specs.TypedStates.{IsReady, AreWaiting, StandsAt, IsTypedState};
 ghost use Rattle.step_laws.specs.Premises.{HasSoundHierarchy};
 ghost use Rattle.step_laws.specs.Effects.{HasEffect};
 ghost use Rattle.step_laws.specs.Tables.{HasSoundCode};
 ghost use Rattle.kept_laws.specs.Going.{is_return, is_calling, LeadsOn, HasRaisedClasses};
-ghost use Rattle.kept_laws.specs.Paths.{HasFirstPaths, AreAllTyped, prolonged_by};
+ghost use Rattle.kept_laws.specs.Paths.{AreAllTyped, prolonged_by};
+ghost use Rattle.typing_heights.specs.FirstPaths.{HasFirstPaths};
 ghost use Rattle.kept_laws.specs.Kept.{HasTypedStep};
 ghost use Rattle.kept_laws.specs.Premises.{HasPremises};
+ghost use Rattle.kept_laws.specs.Calls.{ComesTo};
 ghost use Rattle.jo_prog.specs.declared.program.TypeRef.{TypeRef};
 ghost use Rattle.machine.specs.Runs.{enabled};
 
@@ -72,7 +74,17 @@ pub fn returns_keep_typing()
         → HasTypedStep program (step program labels inputs s t) }
 {}
 
-/// The same at a call: of a method with code, which begins with its values while the frame waits; of a source, a sink or a release;
+/// A call in a typed state comes to something: a method with code begins with values of the kinds of its receiver and parameters, a thread
+/// that wasn't started begins, a source, sink or release has its int, or the machine raises; the result is of the type that is named.
+pub fn calls_come_to_something()
+    ensures { (program : Program) (labels : Labels) (inputs : List SourceInput) → HasPremises program labels inputs → (s : State) → IsTypedState program s
+        → (t : ℕ) (thread : Thread) (f : Frame) (below : List Frame) → slice_get s.threads t ≡ Some thread → thread.pending ≡ None → thread.frames ≡ f ∷ below
+        → (op : ℕ) (owner : TypeRef) (named count next : ℕ) → instruction_at program f.method f.pc ≡ Some (calls op owner named count, next)
+        → (values rest : List (Value ℕ)) → popped count f.stack ≡ Some (values, rest)
+        → ComesTo program s (result_of (method_desc (method_at program named))) (called program labels s f.method op owner named values) }
+{}
+
+/// A thread whose top frame stands at a call has a next step, which leaves the state typed: of a method with code, which begins with its values while the frame waits; of a source, a sink or a release;
 /// of `start` and `join`; and where the machine raises, as on a null receiver.
 pub fn calls_keep_typing()
     ensures { (program : Program) (labels : Labels) (inputs : List SourceInput) → HasPremises program labels inputs → (s : State) → IsTypedState program s
