@@ -1,0 +1,11 @@
+mod ThreadLemmas
+mod QuietLemmas
+mod FetchLemmas
+mod StateLemmas
+mod UnwindLemmas
+mod StartLemmas
+mod EnabledLemmas
+mod WaitLemmas
+mod CallLemmas
+mod StepLemmas
+mod TypedLemmas

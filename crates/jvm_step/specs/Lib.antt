@@ -1,0 +1,5 @@
+pub mod Settings
+pub mod States
+pub mod Moves
+pub mod Fetches
+pub mod Standings
