@@ -1,13 +1,13 @@
 -- The threads that may step, from a place on.
-use Rattle.std.proofs.Common.{◌≡◌, ◌∙◌, sym, ap, refl, ℕ, zero, suc, ◌+◌, ◌-◌, ◌<◌, ◌≤◌, Bool, true, false, not, List, [], ◌∷◌, length, drop, get_or, map, Option, Some, None, option_map, slice_get, add-one, arith}
+use Rattle.std.proofs.Common.{◌≡◌, ◌∙◌, sym, ap, refl, ℕ, zero, suc, ◌+◌, ◌-◌, ◌<◌, ◌≤◌, Bool, true, false, not, List, [], ◌∷◌, length, drop, get_or, Option, Some, None, slice_get, add-one, arith}
 use Rattle.std.specs.Prelude.{if◌then◌else◌}
 use Rattle.std.proofs.lemmas.List.{at_drop_more, at_drop_all}
 use Rattle.std.proofs.lemmas.Option.{none-some, same_Some}
 use Rattle.jo_prog.specs.declared.program.Program.{Program}
 use Rattle.jo_prog.specs.declared.labels.Labels.{Labels}
 use Rattle.jo_prog.specs.Machine.{Frame, State}
-use Rattle.machine.specs.Instructions.{Instruction, instruction_at}
-use Rattle.machine.specs.Runs.{enabled_from, enabled, may_step, waits_at}
+use Rattle.machine.specs.Instructions.{instruction_at}
+use Rattle.machine.specs.Runs.{enabled_from, may_step, waits_at}
 use Rattle.jvm_frames.specs.declared.threads.Thread.{Thread}
 use Rattle.jvm_frames.specs.Frames.{thread_of}
 use Rattle.jvm_step.specs.States.{threads_of}

@@ -8,4 +8,5 @@ mod EnabledLemmas
 mod WaitLemmas
 mod CallLemmas
 mod StepLemmas
+mod RunLemmas
 mod TypedLemmas

@@ -1,5 +1,5 @@
 -- What waits: a call that joins a thread.
-use Rattle.std.proofs.Common.{◌≡◌, ◌∙◌, sym, ap, refl, ℕ, Bool, true, false, List, Option, Some, None, option_map}
+use Rattle.std.proofs.Common.{◌≡◌, sym, refl, ℕ, false, List, Option, Some, None, option_map}
 use Rattle.std.proofs.lemmas.Bool.{false≢true}
 use Rattle.jo_prog.specs.declared.program.Program.{Program}
 use Rattle.jo_prog.specs.declared.program.TypeRef.{TypeRef}

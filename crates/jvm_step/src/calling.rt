@@ -33,7 +33,12 @@ fn input_at(inputs: &[SourceInput], source: MethodId, place: u64) -> i32
 {
     for input in inputs {
         if input.source == source {
-            return input.values.as_slice().get(place as usize).copied().unwrap_or(0);
+            return input
+                .values
+                .as_slice()
+                .get(place as usize)
+                .copied()
+                .unwrap_or(0);
         }
     }
     0
@@ -235,10 +240,16 @@ impl State {
             Invoked::Asks(source) => self.ask(setting.inputs, place, next, count, *source),
             Invoked::Shows(sink, value) => {
                 jump_at(&mut self.threads, place, next, count);
-                Ok(Moved::Went(Some(Event::Out { sink: *sink, value: *value })))
+                Ok(Moved::Went(Some(Event::Out {
+                    sink: *sink,
+                    value: *value,
+                })))
             }
             Invoked::Releases(method, value) => {
-                let event = Event::Release { method: *method, value: *value };
+                let event = Event::Release {
+                    method: *method,
+                    value: *value,
+                };
                 self.go_on(place, next, count, &[Value::Int(*value)], Some(event))
             }
             Invoked::Fails(cause) => self.raise(alloc, setting.program, place, *cause),

@@ -1,3 +1,4 @@
+//! The machine: its states, one step of one thread, which threads may step, and runs.
 #![tactic(auto)]
 
 mod applying;
@@ -5,6 +6,7 @@ mod calling;
 mod enabling;
 mod executing;
 mod moves;
+mod runs;
 mod settings;
 mod starts;
 mod states;
@@ -13,5 +15,6 @@ mod threads;
 mod unwinding;
 
 pub use moves::Moved;
+pub use runs::run;
 pub use settings::Setting;
 pub use states::State;

@@ -43,11 +43,7 @@ fn first_value(program: &Program, strings: &Strings, field: &Field) -> Value
     }
 }
 
-fn first_statics(
-    alloc: Global,
-    program: &Program,
-    strings: &Strings,
-) -> Result<Vec<Value>, Memory>
+fn first_statics(alloc: Global, program: &Program, strings: &Strings) -> Result<Vec<Value>, Memory>
     requires { AreStringsOf program.now strings.now }
     ensures { IfOk result (λ statics. map value_of statics.items ≡ machine.first_statics program.now) }
 {

@@ -1,5 +1,4 @@
-use Rattle.std.proofs.Common.{◌≡◌, ◌∙◌, sym, ap, drop}
-use Rattle.jo_prog.specs.Machine.{popped}
+use Rattle.std.proofs.Common.{ap, drop}
 use Rattle.jvm_exec.specs.Forms.{state_with}
 use Rattle.jvm_frames.specs.Frames.{frame_of}
 use Rattle.jvm_step.specs.Fetches.{called_by}

@@ -1,5 +1,4 @@
-use Rattle.std.proofs.Common.{rules, ◌≡◌, ◌∙◌, ◌-◌, ap, List, length, drop}
-use Rattle.jvm_values.specs.declared.values.Value.{Value}
+use Rattle.std.proofs.Common.{rules, ◌≡◌, ◌∙◌, ◌-◌, ap, length, drop}
 use Rattle.jvm_values.specs.Values.{popped_values}
 use Rattle.jvm_step.proofs.CallLemmas.{taken_anyway}
 use Rattle.jvm_step.proofs.calling.top_values.Goals as goal

@@ -1,4 +1,4 @@
-use Rattle.std.proofs.Common.{rules, ◌≡◌, ◌∙◌, sym, ap, subst, true, false, List, [], ◌∷◌, Option, length, map, option_map}
+use Rattle.std.proofs.Common.{◌∙◌, sym, ap, Option}
 use Rattle.std.specs.Option.{option_to_list}
 use Rattle.jo_prog.specs.Machine.{Frame}
 use Rattle.jo_prog.specs.Program.{code_at}

@@ -1,5 +1,5 @@
-use Rattle.std.proofs.Common.{rules, ◌≡◌, ◌∙◌, sym, ap, ◌++◌, ◌∷◌, [], List, replicate}
-use Rattle.jo_prog.specs.Machine.{HeapObject, string_object, no_arguments}
+use Rattle.std.proofs.Common.{◌∙◌, sym, ap, ◌++◌, ◌∷◌, [], List}
+use Rattle.jo_prog.specs.Machine.{HeapObject, no_arguments}
 use Rattle.jvm_step.proofs.StartLemmas.{heap_with, heap_without}
 use Rattle.jvm_step.proofs.starts.first_heap.Goals as goal
 

@@ -1,5 +1,4 @@
-use Rattle.std.proofs.Common.{◌≡◌, sym, refl, List, [], drop, Some, None, slice_get}
-use Rattle.jo_prog.specs.Machine.{Frame}
+use Rattle.std.proofs.Common.{sym, refl, drop}
 use Rattle.jvm_frames.specs.Frames.{frame_of, thread_of}
 use Rattle.jvm_step.proofs.CallLemmas.{first_apart, none_apart}
 use Rattle.jvm_step.proofs.stepping.standing_of.Goals as goal

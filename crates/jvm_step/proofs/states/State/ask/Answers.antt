@@ -1,11 +1,11 @@
-use Rattle.std.proofs.Common.{rules, ◌≡◌, ◌∙◌, sym, ap, refl, subst, ℕ, ◌+◌, [], ◌∷◌, drop, slice_set, Option, Some, None}
+use Rattle.std.proofs.Common.{rules, ◌≡◌, ◌∙◌, ap, ◌+◌, ◌∷◌, drop, slice_set, None}
 use Rattle.std.specs.Prelude.{slice_index, ℤ}
 use Rattle.std.specs.Int.{w32}
 use Rattle.std.specs.Int.RustNames.{FitsSigned}
 use Rattle.std.proofs.lemmas.Int.{to_z-of_z}
-use Rattle.jo_prog.specs.Machine.{Frame, Stepped, input_at}
+use Rattle.jo_prog.specs.Machine.{input_at}
 use Rattle.jo_prog.specs.Values.{int}
-use Rattle.machine.specs.Steps.{at_pc, with_frames, with_cursor, silently}
+use Rattle.machine.specs.Steps.{at_pc}
 use Rattle.jvm_step.specs.States.{state_of, threads_of, framed}
 use Rattle.jvm_step.proofs.CallLemmas.{asked_step}
 use Rattle.jvm_step.proofs.states.State.ask.Goals as goal

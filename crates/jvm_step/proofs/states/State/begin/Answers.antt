@@ -1,11 +1,7 @@
-use Rattle.std.proofs.Common.{rules, ◌≡◌, ◌∙◌, sym, ap, refl, [], ◌∷◌, drop, Option, Some, None, option_map}
-use Rattle.jo_prog.specs.Machine.{Frame, State, Thread}
-use Rattle.jo_prog.specs.Values.{ref}
-use Rattle.machine.specs.Heaps.{marked_started}
-use Rattle.machine.specs.Steps.{at_pc, with_thread, thread_begun}
-use Rattle.jvm_values.specs.Heaps.{changed}
+use Rattle.std.proofs.Common.{◌∙◌, sym, ap, refl, ◌∷◌, drop, option_map}
+use Rattle.machine.specs.Steps.{at_pc, thread_begun}
 use Rattle.jvm_frames.specs.Frames.{frame_of}
-use Rattle.jvm_step.specs.States.{state_of, threads_of, HasTop, framed}
+use Rattle.jvm_step.specs.States.{state_of, threads_of}
 use Rattle.jvm_step.proofs.CallLemmas.{begun_after}
 use Rattle.jvm_step.proofs.states.State.begin.Goals as goal
 

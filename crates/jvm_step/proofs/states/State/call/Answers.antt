@@ -1,4 +1,4 @@
-use Rattle.std.proofs.Common.{◌≡◌, ◌∙◌, sym, ap, refl, subst, ℕ, drop, Option, Some, None}
+use Rattle.std.proofs.Common.{◌≡◌, ◌∙◌, sym, ap, refl, subst, ℕ, drop, Option, Some}
 use Rattle.jo_prog.specs.Machine.{Stepped, popped}
 use Rattle.machine.specs.Invocation.{Invoked}
 use Rattle.machine.specs.Steps.{invoked_step, call_step}

@@ -1,4 +1,4 @@
-use Rattle.std.proofs.Common.{rules, ◌≡◌, ◌∙◌, ◌+◌, ◌<◌, sym, ap, ℕ, true, false, List, slice_get, arith}
+use Rattle.std.proofs.Common.{◌≡◌, ◌∙◌, ◌+◌, sym, ap, ℕ, List, slice_get, arith}
 use Rattle.machine.specs.Runs.{enabled}
 use Rattle.jvm_step.specs.States.{state_of}
 use Rattle.jvm_step.proofs.EnabledLemmas.{enabled_on, place_first, place_may, place_not, none_left}
@@ -14,8 +14,9 @@ loop-number-preserved c =
     let i = c.loop-number.number in
     let x = c.thread-item.result in
     elim c.if-may_step.branch as (λ b. slice_get (enabled_on program labels s xs (i + 1)) c.if-may_step.left ≡ slice_get (enabled program labels s) c.args.place) [
-      then-may_step+else-left-eq0 w ↦ rw w.left-is (sym (place_may program labels s xs i x c.loop-number.left c.loop-number-test.true c.thread-item.is (sym c.may_step.ensures ∙ w.if-may_step.true) (omega arith)) ∙ c.loop-number.invariant)
-    | else-may_step w ↦ rw w.left-is (sym (place_not program labels s xs i x c.loop-number.left c.loop-number-test.true c.thread-item.is (sym c.may_step.ensures ∙ w.if-may_step.false)) ∙ c.loop-number.invariant) ]
+      | then-may_step+else-left-eq0 w ↦ rw w.left-is (sym (place_may program labels s xs i x c.loop-number.left c.loop-number-test.true c.thread-item.is (sym c.may_step.ensures ∙ w.if-may_step.true) (omega arith)) ∙ c.loop-number.invariant)
+      | else-may_step w ↦ rw w.left-is (sym (place_not program labels s xs i x c.loop-number.left c.loop-number-test.true c.thread-item.is (sym c.may_step.ensures ∙ w.if-may_step.false)) ∙ c.loop-number.invariant)
+    ]
 
 pub returns-then-left-eq0 : goal.returns-then-left-eq0
 returns-then-left-eq0 c =

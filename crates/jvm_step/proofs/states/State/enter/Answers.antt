@@ -1,5 +1,4 @@
-use Rattle.std.proofs.Common.{◌≡◌, ◌∙◌, sym, ap, refl, ◌∷◌, drop, Option, Some, None, option_map}
-use Rattle.jo_prog.specs.Machine.{Frame}
+use Rattle.std.proofs.Common.{◌∙◌, sym, ap, refl, ◌∷◌, drop, None, option_map}
 use Rattle.machine.specs.Steps.{at_pc, entered}
 use Rattle.jvm_frames.specs.Frames.{frame_of}
 use Rattle.jvm_step.specs.States.{state_of, threads_of}

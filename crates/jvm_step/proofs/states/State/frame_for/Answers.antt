@@ -1,4 +1,4 @@
-use Rattle.std.proofs.Common.{rules, ◌≡◌, ◌∙◌, sym, ap, refl, List, take, reverse, Option, Some, None, option_map, slice_get}
+use Rattle.std.proofs.Common.{rules, ◌≡◌, ◌∙◌, ap, List, take, reverse, Option, Some, None, slice_get}
 use Rattle.std.proofs.lemmas.Option.{none-some, same_Some}
 use Rattle.jo_prog.specs.Machine.{Frame}
 use Rattle.machine.specs.Steps.{new_frame}

@@ -1,4 +1,4 @@
-use Rattle.std.proofs.Common.{◌≡◌, ◌∙◌, sym, ap, subst, ℕ, Option, Some}
+use Rattle.std.proofs.Common.{◌∙◌, sym, ap, subst, ℕ, Option, Some}
 use Rattle.jo_prog.specs.Machine.{Stepped}
 use Rattle.jo_prog.specs.Program.{method_at}
 use Rattle.machine.specs.Steps.{class_of_method, step_at}

@@ -1,10 +1,8 @@
-use Rattle.std.proofs.Common.{rules, ◌≡◌, ◌∙◌, sym, ap, refl, subst, ℕ, Option, Some, None}
-use Rattle.std.specs.Prelude.{IfSome}
-use Rattle.jo_prog.specs.Machine.{Stepped}
+use Rattle.std.proofs.Common.{sym, ap, refl, subst, ℕ, Option}
 use Rattle.machine.specs.Instructions.{Instruction, instruction_at}
 use Rattle.machine.specs.Steps.{step_at}
 use Rattle.jvm_values.specs.declared.resolved.Resolved.{Resolved}
-use Rattle.jvm_values.specs.Resolved.{seen, IsSeenAt, HasText}
+use Rattle.jvm_values.specs.Resolved.{IsSeenAt}
 use Rattle.jvm_step.specs.States.{state_of}
 use Rattle.jvm_step.specs.Moves.{Steps}
 use Rattle.jvm_step.proofs.StepLemmas.{found_seen}

@@ -1,4 +1,4 @@
-use Rattle.std.proofs.Common.{◌≡◌, ◌∙◌, sym, ap, subst, Option, Some, None}
+use Rattle.std.proofs.Common.{◌∙◌, sym, ap, subst, Option, Some}
 use Rattle.std.specs.Prelude.{IfSome}
 use Rattle.machine.specs.Instructions.{instruction_at}
 use Rattle.machine.specs.Runs.{waits_at}

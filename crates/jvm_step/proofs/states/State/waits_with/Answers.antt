@@ -1,4 +1,4 @@
-use Rattle.std.proofs.Common.{◌≡◌, ◌∙◌, ap}
+use Rattle.std.proofs.Common.{◌∙◌, ap}
 use Rattle.jo_prog.specs.Machine.{popped}
 use Rattle.machine.specs.Runs.{waits_for}
 use Rattle.jvm_frames.specs.Frames.{frame_of}
