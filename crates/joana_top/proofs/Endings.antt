@@ -15,12 +15,12 @@ use Rattle.joana_base.specs.declared.answers.Answer.TheVariants.{Yes, No}
 use Rattle.joana_base.specs.declared.answers.Stop.{Stop}
 use Rattle.joana_base.specs.declared.answers.Stop.TheVariants.{Faulty, Unread, Memory}
 use Rattle.joana_top.specs.Words.{Command}
-use Rattle.joana_top.specs.Words.Command.{check, asm, dis, help}
+use Rattle.joana_top.specs.Words.Command.{check, run, asm, dis, help}
 use Rattle.joana_top.specs.Sinks.{SinkChange, TookAll, TookPart, TookNothing, TookAllOrPart}
 use Rattle.joana_top.specs.Answers.{Puts, IsPut, IsNoted, NotesOfPut}
 use Rattle.joana_top.specs.Commands.{IsTextOf, IsAnswerOf, AfterCommandReads, IsCommandOutcome}
-use Rattle.joana_top.specs.Top.{FitsReads, FitsOutput, FitsNotes, FitsRefusals, FitsVerdict, IsSecureIfAccepted, FitsAssembly, FitsListing}
-use Rattle.joana_top.proofs.Outcomes.{check_text, check_secure}
+use Rattle.joana_top.specs.Top.{FitsReads, FitsOutput, FitsNotes, FitsRefusals, FitsVerdict, IsSecureIfAccepted, FitsTrace, FitsAssembly, FitsListing}
+use Rattle.joana_top.proofs.Outcomes.{check_text, check_secure, run_shown}
 
 -- ---- an answer
 
@@ -112,6 +112,7 @@ weaker A B statuses.Memory out f p = p
 
 text_shown : (held : Held) (command : Command) (status : Status) (text : List ℕ) → IsAnswerOf held command status text → IsTextOf command status text
 text_shown held (check names) status text shows = check_text held names status text shows
+text_shown held (run names) status text shows = run_shown held names status text shows
 text_shown held (asm file) statuses.Done text shows = (shows.2.0, shows.2.2)
 text_shown held (asm file) _ text shows = absurd shows.2
 text_shown held (dis file) statuses.Done text shows = (shows.2.0, shows.2.3)
@@ -120,18 +121,28 @@ text_shown held help status text shows = shows
 
 verdict_shown : (held : Held) (command : Command) (status : Status) (out : SinkChange) → Puts (IsAnswerOf held command) status out → FitsVerdict held (Some command) status out
 verdict_shown held (check names) status out p = p
+verdict_shown held (run names) status out p = tt
 verdict_shown held (asm file) status out p = tt
 verdict_shown held (dis file) status out p = tt
 verdict_shown held help status out p = tt
 
+trace_shown : (held : Held) (command : Command) (status : Status) (out : SinkChange) → Puts (IsAnswerOf held command) status out → FitsTrace held (Some command) status out
+trace_shown held (check names) status out p = tt
+trace_shown held (run names) status out p = p
+trace_shown held (asm file) status out p = tt
+trace_shown held (dis file) status out p = tt
+trace_shown held help status out p = tt
+
 assembly_shown : (held : Held) (command : Command) (status : Status) (out : SinkChange) → Puts (IsAnswerOf held command) status out → FitsAssembly held (Some command) status out
 assembly_shown held (check names) status out p = tt
+assembly_shown held (run names) status out p = tt
 assembly_shown held (asm file) status out p = p
 assembly_shown held (dis file) status out p = tt
 assembly_shown held help status out p = tt
 
 listing_shown : (held : Held) (command : Command) (status : Status) (out : SinkChange) → Puts (IsAnswerOf held command) status out → FitsListing held (Some command) status out
 listing_shown held (check names) status out p = tt
+listing_shown held (run names) status out p = tt
 listing_shown held (asm file) status out p = tt
 listing_shown held (dis file) status out p = p
 listing_shown held help status out p = tt
@@ -139,6 +150,7 @@ listing_shown held help status out p = tt
 secure_shown : (held : Held) (command : Command) (status : Status) (out : SinkChange) → Puts (IsAnswerOf held command) status out → IsSecureIfAccepted held (Some command) status
 secure_shown held (check names) statuses.Done out p = check_secure held names p.0 p.1
 secure_shown held (check names) _ out p = tt
+secure_shown held (run names) status out p = tt
 secure_shown held (asm file) status out p = tt
 secure_shown held (dis file) status out p = tt
 secure_shown held help status out p = tt
@@ -152,6 +164,9 @@ module _ (held : Held) (asked : Option Command) (command : Command) (is : Some c
 
     pub fits_verdict : FitsVerdict held asked status out
     fits_verdict = let P : Option Command → Type 0 = λ o. FitsVerdict held o status out in subst P is (verdict_shown held command status out shown)
+
+    pub fits_trace : FitsTrace held asked status out
+    fits_trace = let P : Option Command → Type 0 = λ o. FitsTrace held o status out in subst P is (trace_shown held command status out shown)
 
     pub fits_assembly : FitsAssembly held asked status out
     fits_assembly = let P : Option Command → Type 0 = λ o. FitsAssembly held o status out in subst P is (assembly_shown held command status out shown)

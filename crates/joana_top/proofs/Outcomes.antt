@@ -20,9 +20,11 @@ use Rattle.joana_base.specs.declared.answers.Answer.TheVariants.{Yes, No}
 use Rattle.joana_base.specs.declared.answers.Stop.{Stop}
 use Rattle.joana_base.specs.declared.answers.Stop.TheVariants.{Faulty, Unread, Memory}
 use Rattle.joana_top.specs.Answers.{IsOutcome, IsReadOutcome}
-use Rattle.joana_top.specs.Stops.{StopsBy, IsLinked, IsLinkStop, IsTypedProgram, IsTypingStop, GivesLabels, IsLabelStop, RefusesLabelling, of_typing, of_policy, IsLabellingStop, IsProgramOf, RefusesMaking, in_files, in_classes, IsMakingStop, IsRefusalBy, in_making, in_program}
+use Rattle.joana_top.specs.Stops.{StopsBy, IsLinked, IsLinkStop, IsTypedProgram, IsTypingStop, GivesLabels, IsLabelStop, RefusesLabelling, of_typing, of_policy, IsLabellingStop, RefusesRunFile, IsRunFileStop, IsProgramOf, RefusesMaking, in_files, in_classes, IsMakingStop, IsRefusalBy, in_making, in_program}
 use Rattle.joana_top.specs.Check as check
 use Rattle.joana_top.specs.Check.{IsReportOf, IsReportText, IsCheckText, IsCheckAnswer, IsSecureCheck, RefusesProgram, of_form, IsDecision, IsShown, IsVerdictOf, IsProgramOutcome, IsFilesOutcome}
+use Rattle.joana_top.specs.Run as runs
+use Rattle.joana_top.specs.Run.{run_file_in, IsRunText, IsRunAnswer, RefusesRun, IsTraceBy, IsProgramRun, IsFilesRun}
 use Rattle.joana_top.specs.OneFile.{OfFile}
 use Rattle.joana_top.specs.declared.commands.check.Decision.{Decision}
 use Rattle.joana_top.specs.declared.commands.check.Decision.TheVariants as decisions
@@ -105,6 +107,14 @@ module _ (files : ProgramFiles) (program : Program) (made : IsProgramOf files pr
   of_program (Err (Unread unread)) said = absurd said
   of_program (Err Memory) said = tt
 
+  -- and of a run file
+  pub of_run : (result : Result Answer Stop) → IsProgramRun program files.policy (run_file_in files.third) result → IsFilesRun files result
+  of_run (Ok (Yes text)) said = (program, said.1, said.3, record { made = made; typed = said.0; labels_are = said.2; plan_is = said.4 }, said.5)
+  of_run (Ok (No text)) said = absurd said
+  of_run (Err (Faulty refusal)) said = in_program program refusal made said
+  of_run (Err (Unread unread)) said = absurd said
+  of_run (Err Memory) said = tt
+
 pub making_stopped : (IsAnswer : Status → List ℕ → Type 0) (RefusesProgram : Program → Refusal → Type 0) (files : ProgramFiles) (stop : Stop) → IsMakingStop files stop → IsReadOutcome IsAnswer (IsRefusalBy RefusesProgram files) (Err stop)
 making_stopped IsAnswer RefusesProgram files stop stopped = stop_outcome IsAnswer (RefusesMaking files) (IsRefusalBy RefusesProgram files) (λ refusal by. in_making refusal by) stop stopped
 
@@ -123,6 +133,13 @@ policy_labelling program policy typed Memory stopped = tt
 module _ (program : Program) (policy : List ℕ) where
   pub refused_check : (stop : Stop) → IsLabellingStop program policy stop → IsProgramOutcome program policy (Err stop)
   refused_check stop stopped = stop_outcome (IsVerdictOf program policy) (RefusesLabelling program policy) (RefusesProgram program policy) (λ refusal by. check.of_labelling refusal by) stop stopped
+
+  pub refused_run : (run_file : List ℕ) (stop : Stop) → IsLabellingStop program policy stop → IsProgramRun program policy run_file (Err stop)
+  refused_run run_file stop stopped = stop_outcome (IsTraceBy program policy run_file) (RefusesLabelling program policy) (RefusesRun program policy run_file) (λ refusal by. runs.of_labelling refusal by) stop stopped
+
+  pub refused_run_file : (labels : Labels) (run_file : List ℕ) → IsTypedProgram program → GivesLabels program policy labels → (stop : Stop) → IsRunFileStop program labels run_file stop → IsProgramRun program policy run_file (Err stop)
+  refused_run_file labels run_file typed gives stop stopped =
+      stop_outcome (IsTraceBy program policy run_file) (RefusesRunFile program labels run_file) (RefusesRun program policy run_file) (λ refusal by. runs.of_run_file labels refusal typed gives by) stop stopped
 
 module _ (program : Program) (policy : List ℕ) (typed : IsTypedProgram program) where
   module _ (labels : Labels) (gives : GivesLabels program policy labels) (well : IsWellLabelled program labels) where
@@ -162,3 +179,9 @@ pub check_secure : (held : Held) (names : ProgramNames) (text : List ℕ) → Is
 check_secure held names text shows =
     let verdict = shows.2 in
     (shows.0, shows.1, verdict.1, verdict.2, verdict.3, verdict.4, clean_graph_secure verdict.1 verdict.2 verdict.3.form.plain verdict.4)
+
+-- ---- what is shown of a run
+
+pub run_shown : (held : Held) (names : ProgramNames) (status : Status) (text : List ℕ) → IsRunAnswer held names status text → IsRunText status text
+run_shown held names statuses.Done text shows = (shows.2.0, runs.run_by shows.2.0 shows.2.1 shows.2.2, shows.2.4)
+run_shown held names _ text shows = absurd shows.2

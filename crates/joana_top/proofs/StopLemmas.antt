@@ -11,6 +11,10 @@ use Rattle.linker.proofs.ParentsThere.{parents_there}
 use Rattle.policy_tree.specs.declared.faults.PolicyFault.{PolicyFault}
 use Rattle.policy_tree.specs.declared.faults.PolicyFault.TheVariants as policies
 use Rattle.jo_policy.specs.Policies.{IsTextFault, OrMemory}
+use Rattle.policy_tree.specs.declared.runs.RunFileFault.{RunFileFault}
+use Rattle.policy_tree.specs.declared.runs.RunFileFault.TheVariants as runs
+use Rattle.run_plans.specs.RunFiles.{IsRunFault, OrNoMemory}
+use Rattle.jo_prog.specs.declared.labels.Labels.{Labels}
 use Rattle.jvm_typing.specs.declared.programs.MethodFault.{MethodFault}
 use Rattle.jvm_typing.specs.Typings.{IsFirstMethodFault}
 use Rattle.joana_base.specs.declared.status.LinkKind.{LinkKind}
@@ -18,7 +22,7 @@ use Rattle.joana_base.specs.declared.status.PolicyKind.{PolicyKind}
 use Rattle.joana_base.specs.declared.status.Refusal.{Refusal}
 use Rattle.joana_base.specs.declared.answers.Stop.{Stop}
 use Rattle.joana_base.specs.declared.answers.Stop.TheVariants.{Faulty, Unread, Memory}
-use Rattle.joana_top.specs.Stops.{link_kind, of_linking, policy_kind, RefusesPolicy, of_text, link_stop_by, link_stop, IsLinkStop, RefusesTyping, of_method, IsMethodStop, IsTypingStop, IsPolicyStop, IsLabelStop}
+use Rattle.joana_top.specs.Stops.{link_kind, of_linking, policy_kind, RefusesPolicy, of_text, link_stop_by, link_stop, IsLinkStop, RefusesTyping, of_method, IsMethodStop, IsTypingStop, IsPolicyStop, IsLabelStop, run_file_kind, of_run_file, run_file_stop_by, IsRunFileStop}
 
 pub has_parents : (classes : List ClassFile) (program : Program) → program ≡ program_of classes → HasItsParents program
 has_parents classes program is = let P : Program → Type 0 = HasItsParents in subst P (sym is) (parents_there (linked_classes classes))
@@ -61,3 +65,11 @@ policy_stopped program policy fault (Faulty refusal) found told =
     subst P (sym told.2) (of_text fault told.0 (sure (IsTextFault program policy) fault told.0 told.1 found) told.1)
 policy_stopped program policy fault (Unread unread) found told = absurd told
 policy_stopped program policy fault Memory found told = tt
+
+-- so does that of the run file
+pub run_file_stopped : (program : Program) (labels : Labels) (run_file : List ℕ) (fault : RunFileFault) → OrNoMemory (IsRunFault program labels run_file) fault → IsRunFileStop program labels run_file (run_file_stop_by (run_file_kind fault))
+run_file_stopped program labels run_file runs.NotToml found = of_run_file _ _ found refl
+run_file_stopped program labels run_file runs.Key found = of_run_file _ _ found refl
+run_file_stopped program labels run_file runs.Source found = of_run_file _ _ found refl
+run_file_stopped program labels run_file runs.Range found = of_run_file _ _ found refl
+run_file_stopped program labels run_file runs.Memory found = tt

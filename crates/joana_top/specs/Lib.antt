@@ -4,8 +4,10 @@ pub mod Answers
 pub mod Stops
 pub mod Check
 pub mod OneFile
+pub mod Run
 pub mod Asm
 pub mod Dis
 pub mod Help
 pub mod Commands
 pub mod Top
+pub mod Traces

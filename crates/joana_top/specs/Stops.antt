@@ -1,6 +1,6 @@
 -- Why class files and a policy can't be judged, in the order in which it is told: faults of linking, then of typing, then of the
 -- policy (this project's own).
-use Rattle.std.specs.Prelude.{◌≡◌, ℕ, ◌<◌, length, List, [], ◌∷◌, ◌++◌, Option, Some, None, ⊤}
+use Rattle.std.specs.Prelude.{◌≡◌, ℕ, ◌<◌, length, List, [], ◌∷◌, ◌++◌, Option, Some, None, Ok, ⊤}
 use Rattle.std.specs.Fmt.{decimal}
 use Rattle.toml.specs.Data.{Members}
 use Rattle.jo_text.specs.Escapes.{escaped}
@@ -23,7 +23,11 @@ use Rattle.policy_tree.specs.declared.faults.LevelFault.TheVariants.{Twice, TooM
 use Rattle.policy_tree.specs.declared.faults.PolicyFault.{PolicyFault}
 use Rattle.policy_tree.specs.declared.faults.PolicyFault.TheVariants as policies
 use Rattle.policy_tree.specs.declared.written.ContextsKey.{ContextsKey}
+use Rattle.policy_tree.specs.declared.runs.RunFileFault.{RunFileFault}
+use Rattle.policy_tree.specs.declared.runs.RunFileFault.TheVariants as runs
 use Rattle.jo_policy.specs.Policies.{IsTree, IsPolicy, IsTextFault}
+use Rattle.run_plans.specs.declared.run_file.RunPlan.{RunPlan}
+use Rattle.run_plans.specs.RunFiles.{plan_of, IsRunFault}
 use Rattle.joana_base.specs.Files.{ProgramFiles, RefusesFiles, HaveClasses}
 use Rattle.joana_base.specs.Reading.{AreClasses}
 use Rattle.joana_base.specs.declared.status.InputFault.TheVariants as faults
@@ -34,6 +38,8 @@ use Rattle.joana_base.specs.declared.status.TypingKind.{TypingKind}
 use Rattle.joana_base.specs.declared.status.TypingKind.TheVariants as typing_kinds
 use Rattle.joana_base.specs.declared.status.PolicyKind.{PolicyKind}
 use Rattle.joana_base.specs.declared.status.PolicyKind.TheVariants as policy_kinds
+use Rattle.joana_base.specs.declared.status.RunFileKind.{RunFileKind}
+use Rattle.joana_base.specs.declared.status.RunFileKind.TheVariants as run_file_kinds
 use Rattle.joana_base.specs.declared.status.Refusal.{Refusal}
 use Rattle.joana_base.specs.declared.status.Refusal.TheVariants.{Input}
 use Rattle.joana_base.specs.declared.answers.Stop.{Stop}
@@ -142,6 +148,27 @@ pub data RefusesLabelling (program : Program) (policy : List ℕ) : Refusal → 
   of_typing : (refusal : Refusal) → RefusesTyping program refusal → RefusesLabelling program policy refusal
   of_policy : (refusal : Refusal) → IsTypedProgram program → RefusesPolicy program policy refusal → RefusesLabelling program policy refusal
 
+-- ---- the run file
+
+-- the text of a run file has no fault and gives this plan
+pub record GivesPlan (program : Program) (labels : Labels) (run_file : List ℕ) (plan : RunPlan) : Type 0 where
+  pub tree : Members
+  pub is_tree : IsTree run_file tree
+  pub plan_is : plan_of program labels tree ≡ Ok plan
+
+-- the kind of a fault of a run file; want of memory is none
+abbrev pub run_file_kind : RunFileFault → Option RunFileKind
+run_file_kind runs.NotToml = Some run_file_kinds.NotToml
+run_file_kind runs.Key = Some run_file_kinds.Key
+run_file_kind runs.Source = Some run_file_kinds.Source
+run_file_kind runs.Range = Some run_file_kinds.Range
+run_file_kind runs.Memory = None
+
+-- the first fault of the run file
+pub data RefusesRunFile (program : Program) (labels : Labels) (run_file : List ℕ) : Refusal → Type 0 where
+  of_run_file : (fault : RunFileFault) (kind : RunFileKind) → IsRunFault program labels run_file fault → run_file_kind fault ≡ Some kind
+      → RefusesRunFile program labels run_file (Input (faults.RunFile kind))
+
 -- ---- the files
 
 -- nothing refuses the files, and their classes are linked to this program
@@ -201,6 +228,13 @@ IsLabelStop program policy stop = StopsBy (RefusesPolicy program policy) stop
 
 abbrev pub IsLabellingStop : Program → List ℕ → Stop → Type 0
 IsLabellingStop program policy stop = StopsBy (RefusesLabelling program policy) stop
+
+abbrev pub run_file_stop_by : Option RunFileKind → Stop
+run_file_stop_by None = Memory
+run_file_stop_by (Some kind) = Faulty (Input (faults.RunFile kind))
+
+abbrev pub IsRunFileStop : Program → Labels → List ℕ → Stop → Type 0
+IsRunFileStop program labels run_file stop = StopsBy (RefusesRunFile program labels run_file) stop
 
 abbrev pub IsMakingStop : ProgramFiles → Stop → Type 0
 IsMakingStop files stop = StopsBy (RefusesMaking files) stop

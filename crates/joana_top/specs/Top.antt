@@ -11,11 +11,12 @@ use Rattle.joana_base.specs.declared.status.OutsideFault.TheVariants.{File, Outp
 use Rattle.joana_base.specs.declared.status.Refusal.{Refusal}
 use Rattle.joana_base.specs.declared.status.Refusal.TheVariants as refusals
 use Rattle.joana_top.specs.Words.{Command}
-use Rattle.joana_top.specs.Words.Command.{check, asm, dis}
+use Rattle.joana_top.specs.Words.Command.{check, run, asm, dis}
 use Rattle.joana_top.specs.Sinks.{SinkChange, TookAll, TookPart, TookNothing, TookAllOrPart}
 use Rattle.joana_top.specs.Answers.{Puts}
 use Rattle.joana_top.specs.Commands.{IsReadName, IsTextOf, Refuses}
 use Rattle.joana_top.specs.Check.{IsCheckAnswer, IsSecureCheck}
+use Rattle.joana_top.specs.Run.{IsRunAnswer}
 use Rattle.joana_top.specs.Asm.{IsAsmAnswer}
 use Rattle.joana_top.specs.Dis.{IsDisAnswer}
 
@@ -74,6 +75,11 @@ FitsVerdict held command status out = ⊤
 abbrev pub IsSecureIfAccepted : Held → Option Command → Status → Type 0
 IsSecureIfAccepted held (Some (check names)) status = IsSecureCheck held names status
 IsSecureIfAccepted held command status = ⊤
+
+-- the text is the trace of its run
+abbrev pub FitsTrace : Held → Option Command → Status → SinkChange → Type 0
+FitsTrace held (Some (run names)) status out = Puts (IsRunAnswer held names) status out
+FitsTrace held command status out = ⊤
 
 -- the bytes are the class file of its text
 abbrev pub FitsAssembly : Held → Option Command → Status → SinkChange → Type 0

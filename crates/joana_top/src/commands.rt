@@ -7,7 +7,9 @@ mod asm;
 mod check;
 mod dis;
 mod help;
+mod run;
 mod stops;
+mod traces;
 
 use crate::words::Command;
 use jo_io::Files;
@@ -26,6 +28,7 @@ pub fn run_command<F: Files>(
 {
     match command {
         Command::Check(names) => check::run(alloc, files, names),
+        Command::Run(names) => run::run(alloc, files, names),
         Command::Asm(name) => asm::run(alloc, files, name),
         Command::Dis(name) => dis::run(alloc, files, name),
         Command::Help => help::run(alloc),

@@ -5,7 +5,7 @@ ghost use Rattle.joana_base.specs.declared.answers.Stop.TheVariants.{Faulty, Unr
 ghost use Rattle.joana_top.specs.Words.{command_in};
 ghost use Rattle.joana_top.specs.Sinks.{sink_change, TookAllOrPart};
 ghost use Rattle.joana_top.specs.Answers.{IsWordless, IsPut, NotesOfPut, IsNoted};
-ghost use Rattle.joana_top.specs.Top.{FitsWords, FitsReads, FitsOutput, FitsNotes, FitsRefusals, FitsVerdict, IsSecureIfAccepted, FitsAssembly, FitsListing};
+ghost use Rattle.joana_top.specs.Top.{FitsWords, FitsReads, FitsOutput, FitsNotes, FitsRefusals, FitsVerdict, IsSecureIfAccepted, FitsTrace, FitsAssembly, FitsListing};
 
 use crate::commands::run_command;
 use crate::words;
@@ -88,8 +88,8 @@ fn put_answer<S: Sink, N: Sink>(out: &mut S, notes: &mut N, answer: &Answer) -> 
 
 /// The program over files and sinks: the first word names the command, the others its files.
 ///
-/// `check CLASSES POLICY` reads POLICY first, then CLASSES, then each path of the class list; `asm FILE` and
-/// `dis FILE` read FILE; `help` reads nothing. `out` is given the whole answer in one put, `notes` a line where there is no
+/// `check CLASSES POLICY` reads POLICY first, then CLASSES, then each path of the class list; `run CLASSES POLICY RUNFILE` reads
+/// RUNFILE before these paths; `asm FILE` and `dis FILE` read FILE; `help` reads nothing. `out` is given the whole answer in one put, `notes` a line where there is no
 /// answer. With `Memory` nothing is put.
 pub fn joana<F: Files, S: Sink, N: Sink>(
     alloc: Global,
@@ -115,6 +115,9 @@ pub fn joana<F: Files, S: Sink, N: Sink>(
         (sink_change S.given S.faults out.old out.new) }
     // that an accepted program is secure,
     ensures secure { IsSecureIfAccepted (F.held files.old) (command_in words.now) result }
+    // the trace of the run that they ask for,
+    ensures trace { FitsTrace (F.held files.old) (command_in words.now) result
+        (sink_change S.given S.faults out.old out.new) }
     // the class file of the text that they are,
     ensures assembly { FitsAssembly (F.held files.old) (command_in words.now) result
         (sink_change S.given S.faults out.old out.new) }

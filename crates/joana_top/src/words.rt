@@ -11,6 +11,7 @@ use std::alloc::{AllocError as Memory, Global};
 #[derive(Clone, Copy)]
 enum Kind {
     Check,
+    Run,
     Asm,
     Dis,
     Help,
@@ -18,8 +19,9 @@ enum Kind {
 
 /// The first words, the names of files that stand behind them, and the commands that they mean.
 #[rattlefmt::skip]
-const COMMANDS: [(&str, &str, Kind); 4] = [
+const COMMANDS: [(&str, &str, Kind); 5] = [
     ("check", " CLASSES POLICY", Kind::Check),
+    ("run", " CLASSES POLICY RUNFILE", Kind::Run),
     ("asm", " FILE", Kind::Asm),
     ("dis", " FILE", Kind::Dis),
     ("help", "", Kind::Help),
@@ -30,6 +32,8 @@ const COMMANDS: [(&str, &str, Kind); 4] = [
 pub enum Command<'a> {
     /// `check CLASSES POLICY`.
     Check(ProgramNames<'a>),
+    /// `run CLASSES POLICY RUNFILE`.
+    Run(ProgramNames<'a>),
     /// `asm FILE`.
     Asm(&'a str),
     /// `dis FILE`.
@@ -66,6 +70,14 @@ fn with_names(kind: Kind, names: &[String]) -> Option<Command<'_>>
                 classes: classes.as_str(),
                 policy: policy.as_str(),
                 third: None,
+            })),
+            _ => None,
+        },
+        Kind::Run => match names {
+            [classes, policy, file] => Some(Command::Run(ProgramNames {
+                classes: classes.as_str(),
+                policy: policy.as_str(),
+                third: Some(file.as_str()),
             })),
             _ => None,
         },

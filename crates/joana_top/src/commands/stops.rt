@@ -8,7 +8,7 @@ ghost use Rattle.jo_prog.specs.Spelling.{spelled_method};
 ghost use Rattle.hierarchy.specs.Hierarchies.{HasItsParents, IsHierarchyOf};
 ghost use Rattle.joana_base.specs.Files.{AreReadable};
 ghost use Rattle.joana_base.specs.Reading.{in_bytes};
-ghost use Rattle.joana_top.specs.Stops.{link_kind, link_stop, IsTypedProgram, typing_kind, IsMethodStop, IsTypingStop, policy_kind, carried_levels, carried, IsLinked, IsLinkStop, GivesLabels, IsPolicyStop, IsLabelStop, IsLabellingStop, IsProgramOf, IsMakingStop};
+ghost use Rattle.joana_top.specs.Stops.{link_kind, link_stop, IsTypedProgram, typing_kind, IsMethodStop, IsTypingStop, policy_kind, carried_levels, carried, IsLinked, IsLinkStop, GivesLabels, IsPolicyStop, IsLabelStop, IsLabellingStop, GivesPlan, run_file_kind, run_file_stop_by, IsRunFileStop, IsProgramOf, IsMakingStop};
 
 use class_pool::ClassFile;
 use hierarchy::Hierarchy;
@@ -19,11 +19,12 @@ use jo_prog::spelling::push_method;
 use jo_prog::typed::TypeCode;
 use jo_text::{Name, push_escaped};
 use joana_base::{
-    InputFault, LinkKind, PolicyKind, ProgramFiles, Refusal, Stop, TypingFault, TypingKind,
-    classes_of,
+    InputFault, LinkKind, PolicyKind, ProgramFiles, Refusal, RunFileKind, Stop, TypingFault,
+    TypingKind, classes_of,
 };
 use jvm_typing::programs::{MethodFault, type_program};
 use linker::{LinkCode, LinkFault, link};
+use run_plans::{RunFileFault, RunPlan, read_run};
 use std::alloc::{AllocError as Memory, Global};
 
 // ---- linking
@@ -296,5 +297,47 @@ pub fn labelled(
     match policy_for(alloc, program, hierarchy, text) {
         Ok(policy) => Ok(policy),
         Err(stop) => Err(stop),
+    }
+}
+
+// ---- the run file
+
+/// The kind of a fault. Want of memory is none.
+fn run_file_kind(fault: RunFileFault) -> Option<RunFileKind>
+    ensures { result ≡ run_file_kind fault }
+{
+    match fault {
+        RunFileFault::NotToml => Some(RunFileKind::NotToml),
+        RunFileFault::Key => Some(RunFileKind::Key),
+        RunFileFault::Source => Some(RunFileKind::Source),
+        RunFileFault::Range => Some(RunFileKind::Range),
+        RunFileFault::Memory => None,
+    }
+}
+
+/// The stop at a run file with that fault.
+fn run_file_stop(fault: RunFileFault) -> Stop
+    ensures { result ≡ run_file_stop_by (run_file_kind fault) }
+{
+    match run_file_kind(fault) {
+        Some(kind) => Stop::Faulty(Refusal::Input(InputFault::RunFile(kind))),
+        None => Stop::Memory,
+    }
+}
+
+/// The plan that the text of a run file gives.
+pub fn plan_for(
+    alloc: Global,
+    program: &Program,
+    policy: &Policy,
+    text: &[u8],
+) -> Result<RunPlan, Stop>
+    requires { length program.now.methods < 2 ^ 32 }
+    ensures plan { IfOk result (GivesPlan program.now policy.now.labels text.now) }
+    ensures stop { IfErr result (IsRunFileStop program.now policy.now.labels text.now) }
+{
+    match read_run(alloc, text, program, policy) {
+        Ok(plan) => Ok(plan),
+        Err(fault) => Err(run_file_stop(fault)),
     }
 }
