@@ -1,6 +1,6 @@
 -- The laws of plain code, from the definitions of the machine, of typing and of the dependence graph.
 use Rattle.std.proofs.Common.{◌≡◌, inl, inr, ℕ, zero, suc, ◌+◌, ◌-◌, ◌%◌, ℤ, Bool, true, false, List, [], ◌∷◌, length, replicate, Option, Some, None, Contains, refl, sym, ap, subst, ◌∙◌, arith}
-use Rattle.std.specs.Prelude.{pos, IsSome, is_some, slice_get, slice_set, slice_index, codes}
+use Rattle.std.specs.Prelude.{pos, slice_get, slice_set, slice_index, codes}
 use Rattle.std.specs.List.{AllByRecursion}
 use Rattle.std.specs.Str.{bytes_eq}
 use Rattle.std.proofs.lemmas.Bool.{false≢true}
@@ -19,7 +19,7 @@ use Rattle.jo_prog.specs.Labels.{label_of, reaches, misses, shown_at, brings}
 use Rattle.jo_prog.specs.Program.{method_at, operation_at, callee_at}
 use Rattle.jo_prog.specs.PlainCode.{IsLabelledNative, IsEntry, IsPlainProgram, goes_on, IsPlainFrom, last, then}
 use Rattle.jo_prog.specs.Running.{with_thread}
-use Rattle.jo_prog.specs.Runs.{unmoved, advanced, enabled, all_ended, sink_level}
+use Rattle.jo_prog.specs.Runs.{unmoved, advanced, all_ended, sink_level}
 use Rattle.jo_prog.specs.Typing.{Kind, Int, Null, Ref, Unset, Shape, shape_at_start, with_stack, exchange_by, shape_after, Arrives, at_start, HasHeight}
 use Rattle.jo_prog.specs.Values.{Value, int, ref}
 use Rattle.jo_prog.specs.Constants.{takes_arguments, arguments_address}
@@ -285,11 +285,6 @@ module _ (program : Program) (labels : Labels) (plain : IsPlainProgram program l
     moves_there : (number : ℕ) → Moves Standing Over inputs store cursors (doing p) (advanced program labels inputs s number)
     moves_there number = subst (λ x. Moves Standing Over inputs store cursors (doing p) x) (sym (ap (λ x. advanced program labels inputs x number) standing.is ∙ advances number)) stepped.move
 
-    steps_there : (t : ℕ) → Contains (enabled s) t → IsSome (step program labels inputs s t)
-    steps_there t among =
-        let first : 0 ≡ t = contains_one 0 t (subst (λ x. Contains (enabled x) t) standing.is among) in
-        subst (λ x. IsSome (step program labels inputs x t)) (sym standing.is) (subst (λ i. IsSome (step program labels inputs before i)) first (ap (λ (o : Option Stepped). is_some o) stepped.is_step))
-
   -- ---- what the graph has of it
 
   -- the node that reads and writes at a spot
@@ -510,10 +505,8 @@ module _ (program : Program) (labels : Labels) (plain : IsPlainProgram program l
     cursors = replicate (length program.methods) 0;
     starts = first_standing;
     moves = moves_there;
-    steps = steps_there;
     unended = λ p store cursors s standing. ap (λ x. all_ended x.threads) standing.is;
     rests = λ s is inputs number. subst (λ x. advanced program labels inputs x number ≡ record { state = x; event = None }) (sym is.1) refl;
-    none_enabled = λ s is t among. contains_none t (subst (λ x. Contains (enabled x) t) is.1 among);
     ended = λ s is. ap (λ (x : State). all_ended x.threads) is.1;
     flows_there = source_flows;
   }

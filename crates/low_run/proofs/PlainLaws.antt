@@ -1,14 +1,14 @@
 -- What the security of plain code needs of the machine, of typing and of the dependence graph, and nothing else: plain code is
 -- a line of assignments to places, each done by one step, and what leads from a source to a sink there is found in the graph.
 use Rattle.std.proofs.Common.{◌≡◌, ℕ, ◌+◌, ◌==◌, ℤ, Bool, true, false, cond, List, [], ◌∷◌, map, Option, Some, None, Contains}
-use Rattle.std.specs.Prelude.{IsSome, slice_index, slice_set}
+use Rattle.std.specs.Prelude.{slice_index, slice_set}
 use Rattle.jo_prog.specs.declared.labels.Labels.{Labels}
 use Rattle.jo_prog.specs.declared.program.Program.{Program}
 use Rattle.jo_prog.specs.declared.runs.SourceInput.{SourceInput}
 use Rattle.jo_prog.specs.declared.runs.Event.TheVariants.{Out}
 use Rattle.jo_prog.specs.Labels.{label_of, reaches}
-use Rattle.jo_prog.specs.Machine.{State, Stepped, start, step, input_at}
-use Rattle.jo_prog.specs.Runs.{advanced, enabled, all_ended, sink_level}
+use Rattle.jo_prog.specs.Machine.{State, Stepped, start, input_at}
+use Rattle.jo_prog.specs.Runs.{advanced, all_ended, sink_level}
 use Rattle.dependence.specs.declared.flow.Place.{Place}
 use Rattle.dependence.specs.declared.flow.Place.TheVariants.{Local, Stack, Pending}
 use Rattle.low_run.specs.Security.{source_level}
@@ -100,15 +100,12 @@ pub record PlainLaws (program : Program) (labels : Labels) : Type 1 where
   pub store : Store
   pub cursors : List ℕ
   pub starts : Stands first store cursors (start program labels)
-  -- each number of the schedule moves a thread that stands, and each thread that may step has a step
+  -- each number of the schedule moves a thread that stands
   pub moves : (p : Spot) (ints : Store) (given : List ℕ) (s : State) → Stands p ints given s → (inputs : List SourceInput) (number : ℕ)
       → Moves Stands IsOver inputs ints given (doing p) (advanced program labels inputs s number)
-  pub steps : (p : Spot) (ints : Store) (given : List ℕ) (s : State) → Stands p ints given s → (inputs : List SourceInput) (t : ℕ) → Contains (enabled s) t
-      → IsSome (step program labels inputs s t)
   pub unended : (p : Spot) (ints : Store) (given : List ℕ) (s : State) → Stands p ints given s → all_ended s.threads ≡ false
   -- once the thread has ended nothing changes
   pub rests : (s : State) → IsOver s → (inputs : List SourceInput) (number : ℕ) → advanced program labels inputs s number ≡ record { state = s; event = None }
-  pub none_enabled : (s : State) → IsOver s → (t : ℕ) → Contains (enabled s) t → ⊥
   pub ended : (s : State) → IsOver s → all_ended s.threads ≡ true
   -- without an illegal chain for an observer, a source that leads to a sink which it sees flows to it
   pub flows_there : (observer : ℕ) → CleanByEdges program labels observer → (p q next after : Spot) (source sink : ℕ) (v w : Place) → doing p ≡ takes source v next → doing q ≡ shows sink w after

@@ -1,7 +1,7 @@
 -- Two runs of a clean plain program side by side, and one run alone, over the laws of plain code: after as many steps both stand
 -- at one spot, and the places that bear on what an observer sees hold the same ints.
 use Rattle.std.proofs.Common.{◌≡◌, ℕ, suc, ◌+◌, ℤ, Bool, true, false, cond, List, [], ◌∷◌, map, Option, Some, None, Contains, refl, sym, ap, subst, ◌∙◌, inl, arith}
-use Rattle.std.specs.Prelude.{IsSome, slice_index, slice_set}
+use Rattle.std.specs.Prelude.{slice_index, slice_set}
 use Rattle.std.proofs.lemmas.Bool.{false≢true, eqb-true, eq-eqb}
 use Rattle.std.proofs.lemmas.Option.{same_Some, none-some}
 use Rattle.jo_prog.specs.declared.labels.Labels.{Labels}
@@ -11,11 +11,10 @@ use Rattle.jo_prog.specs.declared.runs.Event.{Event}
 use Rattle.jo_prog.specs.declared.runs.Event.TheVariants.{Out}
 use Rattle.jo_prog.specs.declared.runs.Trace.{Trace}
 use Rattle.jo_prog.specs.Labels.{label_of, reaches}
-use Rattle.jo_prog.specs.Machine.{State, Stepped, start, step, input_at}
-use Rattle.jo_prog.specs.Runs.{advanced, enabled, with_event, run_from, seen, sink_level}
+use Rattle.jo_prog.specs.Machine.{State, Stepped, start, input_at}
+use Rattle.jo_prog.specs.Runs.{advanced, with_event, run_from, seen, sink_level}
 use Rattle.dependence.specs.declared.flow.Place.{Place}
 use Rattle.dependence.specs.declared.flow.Place.TheVariants.{Local, Stack, Pending}
-use Rattle.low_run.specs.RunStates.{IsState, at_start, goes_on}
 use Rattle.low_run.specs.Security.{Agree, AgreeOnInputs, TracesAgree, Secure}
 use Rattle.low_run.specs.ByEdges.{CleanByEdges, AllCleanByEdges}
 use Rattle.low_run.proofs.PlainLaws.{Store, same_place, with_int, Doing, assigns, takes, shows, returns, read_by, written_by, behind, Keeps, here, further, Leads, ends, goes, Moves, PlainLaws}
@@ -220,32 +219,3 @@ module _ (program : Program) (labels : Labels) (laws : PlainLaws program labels)
 pub secure_by_laws : (program : Program) (labels : Labels) → PlainLaws program labels → AllCleanByEdges program labels → Secure program labels
 secure_by_laws program labels laws clean observer among inputs others agree schedule other_schedule =
     runs_agree program labels laws observer (clean observer among) inputs others agree schedule other_schedule
-
--- ---- one run
-
-module _ (program : Program) (labels : Labels) (laws : PlainLaws program labels) (inputs : List SourceInput) where
-  data Placed : State → Type 0 where
-    over : (s : State) → laws.IsOver s → Placed s
-    stands : (p : laws.Spot) (store : Store) (cursors : List ℕ) (s : State) → laws.Stands p store cursors s → Placed s
-
-  moved : (store : Store) (cursors : List ℕ) (after : Stepped) (doing : Doing laws.Spot) → Moves laws.Stands laws.IsOver inputs store cursors doing after → Placed after.state
-  moved store cursors after (assigns places v value next) is = stands next _ cursors after.state is.1
-  moved store cursors after (takes source v next) is = stands next _ _ after.state is.1
-  moved store cursors after (shows sink v next) is = stands next store cursors after.state is.1
-  moved store cursors after returns is = over after.state is.1
-
-  advanced_placed : (s : State) (number : ℕ) → Placed s → Placed (advanced program labels inputs s number).state
-  advanced_placed s number (over a is) = subst (λ (x : Stepped). Placed x.state) (sym (laws.rests a is inputs number)) (over a is)
-  advanced_placed s number (stands p store cursors a is) = moved store cursors (advanced program labels inputs a number) (laws.doing p) (laws.moves p store cursors a is inputs number)
-
-  state_placed : (s : State) → IsState program labels inputs s → Placed s
-  state_placed s at_start = stands laws.first laws.store laws.cursors (start program labels) laws.starts
-  state_placed s (goes_on before number is) = advanced_placed before number (state_placed before is)
-
-  steps_by : (s : State) → Placed s → (t : ℕ) → Contains (enabled s) t → IsSome (step program labels inputs s t)
-  steps_by s (over a is) t among = absurd (laws.none_enabled a is t among)
-  steps_by s (stands p store cursors a is) t among = laws.steps p store cursors a is inputs t among
-
-  -- no run gets stuck
-  pub steps_by_laws : (s : State) → IsState program labels inputs s → (t : ℕ) → Contains (enabled s) t → IsSome (step program labels inputs s t)
-  steps_by_laws s is t among = steps_by s (state_placed s is) t among

@@ -4,4 +4,3 @@ pub mod ByEdges
 pub mod Security
 pub mod Sides
 pub mod Leak
-pub mod RunStates

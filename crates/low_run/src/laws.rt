@@ -1,14 +1,11 @@
 //! Laws of the definitions. Each function is empty: what it ensures is the law.
-ghost use Rattle.std.specs.Prelude.{◌≢◌, ◌⊎◌, ◌↔◌, ℕ, ℤ, Bool, true, false, List, ◌∷◌, ◌++◌, Contains, IsSome};
-ghost use Rattle.jo_prog.specs.Machine.{State, step};
+ghost use Rattle.std.specs.Prelude.{◌≢◌, ◌⊎◌, ◌↔◌, ℕ, ℤ, Bool, true, false, List, ◌∷◌, ◌++◌};
 ghost use Rattle.jo_prog.specs.PlainCode.{IsPlainProgram};
-ghost use Rattle.jo_prog.specs.Runs.{enabled};
 ghost use Rattle.jo_prog.specs.Worked.{worked_labels, worked_program};
 ghost use Rattle.jo_prog.specs.declared.labels.Labels.{Labels};
 ghost use Rattle.jo_prog.specs.declared.program.Program.{Program};
 ghost use Rattle.jo_prog.specs.declared.runs.Event.{Event};
 ghost use Rattle.jo_prog.specs.declared.runs.Event.TheVariants.{Out};
-ghost use Rattle.jo_prog.specs.declared.runs.SourceInput.{SourceInput};
 ghost use Rattle.dep_nodes.specs.declared.graphs.Graph.{Graph};
 ghost use Rattle.dep_nodes.specs.Chains.{Link};
 ghost use Rattle.dep_nodes.specs.Nodes.{Node};
@@ -16,7 +13,6 @@ ghost use Rattle.dependence.specs.GraphData.{IsDependenceGraph};
 ghost use Rattle.low_run.specs.Leak.{leaking_program};
 ghost use Rattle.low_run.specs.ByEdges.{AllCleanByEdges, IllegalByEdges};
 ghost use Rattle.low_run.specs.Verdict.{CleanForAll, IllegalChain};
-ghost use Rattle.low_run.specs.RunStates.{IsState};
 ghost use Rattle.low_run.specs.Security.{Agree, Secure};
 
 /// A plain program is secure whose dependence graph is clean for each of its observers; and one without an illegal chain
@@ -59,10 +55,4 @@ pub fn agreement()
         → Agree labels observer xs ended ys other_ended → Agree labels observer ys other_ended xs ended }
     ensures decidable { (labels : Labels) (observer : ℕ) (xs ys : List Event) (ended other_ended : Bool)
         → Agree labels observer xs ended ys other_ended ⊎ (Agree labels observer xs ended ys other_ended → ⊥) }
-{}
-
-/// Typed plain code never gets stuck: in each state of a run, each thread that may step has a step.
-pub fn never_stuck()
-    ensures { (program : Program) (labels : Labels) (inputs : List SourceInput) (s : State) (t : ℕ)
-        → IsPlainProgram program labels → IsState program labels inputs s → Contains (enabled s) t → IsSome (step program labels inputs s t) }
 {}
