@@ -11,7 +11,7 @@ use Rattle.dependence.specs.declared.facts.Fact.TheVariants.{Reached, Holds, Cel
 use Rattle.fact_sets.specs.FactLists.{FactLists, HasFact, IsFactAt}
 use Rattle.fact_sets.proofs.SayLemmas.{same_fact}
 use Rattle.fact_rules.specs.Adds.{Adds, FromBelow}
-use Rattle.fact_rules.specs.Seen.{TellsApart, instance_seen, object_seen, fact_seen, Known, Listed}
+use Rattle.fact_sets.specs.Seen.{TellsApart, instance_seen, object_seen, fact_seen, Known, Listed}
 use Rattle.fact_rules.specs.CallRules.{ByCall, is_called, comes_back, comes_out, waits, HandsOn, TargetGives, CallGives}
 use Rattle.fact_rules.proofs.SeenLemmas.{was_kept, kept_known, seen_adds}
 

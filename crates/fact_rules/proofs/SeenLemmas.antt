@@ -11,7 +11,7 @@ use Rattle.fact_sets.specs.declared.numbered.NumberedFact.{NumberedFact}
 use Rattle.fact_sets.specs.FactLists.{FactLists, HasFact, Says}
 use Rattle.fact_sets.proofs.SayLemmas.{same_number}
 use Rattle.fact_rules.specs.Adds.{Adds}
-use Rattle.fact_rules.specs.Seen.{TellsApart, instance_seen, object_seen, cell_seen, fact_seen, Known, Listed}
+use Rattle.fact_sets.specs.Seen.{TellsApart, instance_seen, object_seen, cell_seen, fact_seen, Known, Listed}
 
 module _ {C : Type 0} (list : C → List ℕ) (tells : TellsApart list) where
   pub same_instance : (a b : InstKey C) → instance_seen list a ≡ instance_seen list b → a ≡ b

@@ -1,4 +1,3 @@
-pub mod Seen
 pub mod Adds
 pub mod Additions
 pub mod CallRules

@@ -11,7 +11,7 @@ ghost use Rattle.jo_prog.specs.TypingPaths.{HasHeightAt};
 ghost use Rattle.dependence.specs.declared.facts.Fact.{Fact as AFact};
 ghost use Rattle.dependence.specs.FactRules.{ByRule};
 ghost use Rattle.fact_rules.specs.Adds.{Adds};
-ghost use Rattle.fact_rules.specs.Seen.{TellsApart, Known, Listed};
+ghost use Rattle.fact_sets.specs.Seen.{TellsApart, Known, Listed};
 ghost use Rattle.fact_rules.specs.CallRules.{ByCall, CallGives, HandsOn, IfHas, TargetGives};
 
 use crate::additions::{add, add_held};

@@ -1,5 +1,5 @@
 use Rattle.jo_prog.specs.TypingPaths.{HasHeightAt}
-use Rattle.fact_rules.specs.Seen.{Known}
+use Rattle.fact_sets.specs.Seen.{Known}
 use Rattle.fact_rules.proofs.RuleLemmas.{call_by_rule}
 use Rattle.fact_rules.proofs.call_rules.calls_follow_by_rules.Goals as goal
 
