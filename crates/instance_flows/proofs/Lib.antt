@@ -1,2 +1,16 @@
 pub mod NullLemmas
 pub mod PartLemmas
+pub mod HeightLemmas
+pub mod AlikeLemmas
+pub mod SeenLemmas
+pub mod FlowLemmas
+pub mod OpcodeLemmas
+pub mod RaisingLemmas
+pub mod ObjectLemmas
+pub mod HeldLemmas
+pub mod KeepLemmas
+pub mod UseLemmas
+pub mod BaseLemmas
+pub mod MarkLemmas
+pub mod TargetLemmas
+pub mod EntryLemmas

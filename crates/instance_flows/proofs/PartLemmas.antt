@@ -219,7 +219,7 @@ successors_kept kept numbers n ends places list is has same = subst (HasThose (�
     back : (x : ℕ) → (b : ℕ) × EdgeIn kept n b × (slice_get numbers x ≡ Some b) → Contains places x
     back x at = (has x).1 (at.0, (edges_are kept n ends is at.0).1 at.1, at.2)
 
-all_below : (count : ℕ) (xs : List ℕ) → ((x : ℕ) → Contains xs x → x < count) → AllByRecursion (λ x. x < count) xs
+pub all_below : (count : ℕ) (xs : List ℕ) → ((x : ℕ) → Contains xs x → x < count) → AllByRecursion (λ x. x < count) xs
 all_below count [] below = tt
 all_below count (x ∷ xs) below = (below x (here x xs), all_below count xs (λ y c. below y (beyond x xs y c)))
 

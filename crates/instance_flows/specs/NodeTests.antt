@@ -1,16 +1,17 @@
 -- What is told by a node and the instruction that it keeps (this project's own form).
-use Rattle.std.specs.Prelude.{◌≡◌, ◌↔◌, ◌⊎◌, ℕ, ◌<◌, Bool, true, false, List, Contains, Option, Some, length, slice_get, IsSomeAnd}
+use Rattle.std.specs.Prelude.{◌≡◌, ◌↔◌, ◌⊎◌, ℕ, ◌<◌, Bool, true, false, ◌||◌, ◌==◌, ℤ, List, Contains, Option, Some, None, length, slice_get, IsSomeAnd}
 use Rattle.jo_ids.specs.Rows.{has_number}
 use Rattle.jo_insn.specs.declared.instructions.Insn.{Insn}
 use Rattle.jo_prog.specs.declared.program.Program.{Program}
-use Rattle.jo_prog.specs.Sites.{opcode_of}
+use Rattle.jo_prog.specs.declared.sites.Cause.TheVariants.{BadIndex}
+use Rattle.jo_prog.specs.Sites.{opcode_of, may_raise}
 use Rattle.dep_nodes.specs.declared.kinds.NodeKind.{NodeKind}
-use Rattle.dep_nodes.specs.declared.kinds.NodeKind.TheVariants.{Entry, Instr, RetVal}
+use Rattle.dep_nodes.specs.declared.kinds.NodeKind.TheVariants.{Entry, Instr, Call, RetVal}
 use Rattle.dependence.specs.declared.flow.Place.{Place}
 use Rattle.dependence.specs.declared.flows.FlowRow.{FlowRow}
 use Rattle.dependence.specs.declared.flows.Use.{Use}
 use Rattle.dependence.specs.GraphsAsData.{kind_at}
-use Rattle.dependence.specs.MayBeNull.{may_give_null, is_move, MayBeNull}
+use Rattle.dependence.specs.MayBeNull.{may_give_null, is_move, MayBeNull, constant_of}
 
 -- ---- nodes
 
@@ -28,6 +29,22 @@ gives_null_by _ insn = false
 abbrev pub moves_by : NodeKind → Option Insn → Bool
 moves_by (Instr pc) (Some insn) = is_move (opcode_of insn)
 moves_by _ insn = false
+
+-- the instruction that stands at a node, with its pc; a call stands at its Call
+abbrev pub standing_by : NodeKind → Option Insn → Option (ℕ × Insn)
+standing_by (Instr pc) (Some insn) = Some (pc, insn)
+standing_by (Call pc) (Some insn) = Some (pc, insn)
+standing_by _ insn = None
+
+-- the int constant that it writes
+abbrev pub constant_by : Program → ℕ → NodeKind → Option Insn → Option ℤ
+constant_by program m (Instr pc) (Some insn) = constant_of program m insn
+constant_by program m _ insn = None
+
+-- it may raise an exception, whatever its operands are: an access of an array by its index, and athrow
+abbrev pub always_raises : Option (ℕ × Insn) → Bool
+always_raises None = false
+always_raises (Some at) = may_raise BadIndex (opcode_of at.1) || opcode_of at.1 == 191
 
 -- ---- which definitions may be null, by number
 

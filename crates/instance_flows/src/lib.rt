@@ -1,7 +1,11 @@
-//! The part of a flow graph that a node reaches by the edges that are kept.
+//! The flow graph of an instance, by given facts.
 #![tactic(auto)]
 
-pub mod nulls;
-pub mod parts;
+pub mod flow;
+mod keeping;
+mod nulls;
+mod objects;
+mod parts;
+mod raising;
 #[cfg(test)]
 mod tests;

@@ -28,7 +28,7 @@ use std::alloc::Global;
 
 // ---- nodes
 
-fn is_entry(kind: NodeKind) -> bool
+pub(crate) fn is_entry(kind: NodeKind) -> bool
     ensures { result ≡ NodeTests.is_entry kind }
 {
     match kind {
@@ -222,7 +222,7 @@ fn null_graph(
 }
 
 /// The nodes whose values may be null: the least such set, found by a search of what comes from what makes null.
-pub fn nulls_of(
+pub(crate) fn nulls_of(
     alloc: Global,
     program: &Program,
     method: MethodId,
@@ -244,7 +244,7 @@ pub fn nulls_of(
 }
 
 /// Whether the definition of a place at a node may be null.
-pub fn definition_may_be_null(
+pub(crate) fn definition_may_be_null(
     program: &Program,
     method: MethodId,
     wide: &Flow,

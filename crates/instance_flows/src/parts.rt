@@ -186,7 +186,7 @@ fn rows_of(
 
 /// The nodes of a graph that the start reaches by the edges that are kept, in the order of their numbers. More nodes than there
 /// are numbers have none: for them memory is said to be wanting.
-pub fn part_of(alloc: Global, flow: &Flow, kept: &Flow, start: u32) -> Result<Flow, Memory>
+pub(crate) fn part_of(alloc: Global, flow: &Flow, kept: &Flow, start: u32) -> Result<Flow, Memory>
     requires start { start < length flow.now }
     requires same { length kept.now ≡ length flow.now }
     ensures { IfOk result (λ part. IsPart flow.now kept.now start part) }
