@@ -1,5 +1,5 @@
 -- What an instruction or a call does with the values that a frame gives it (JVM Specification SE 8, 6.5).
-use Rattle.std.specs.Prelude.{◌≡◌, ℕ, Bool, true, false, ◌&&◌, List, [], take, reverse, Option, Some, None, option_map}
+use Rattle.std.specs.Prelude.{◌≡◌, ℕ, Bool, ◌&&◌, List, [], take, reverse, Option, Some, None, option_map}
 use Rattle.jo_prog.specs.declared.program.Program.{Program}
 use Rattle.jo_prog.specs.declared.labels.Labels.{Labels}
 use Rattle.jo_prog.specs.Program.{method_at, code_at}
@@ -8,7 +8,7 @@ use Rattle.jo_prog.specs.Values.{Value}
 use Rattle.jo_prog.specs.Machine.{Frame, Thread, State}
 use Rattle.jo_prog.specs.Runs.{is_alive}
 use Rattle.machine.specs.Runs.{is_address}
-use Rattle.machine.specs.Instructions.{Instruction, calls}
+use Rattle.machine.specs.Instructions.{Instruction}
 use Rattle.machine.specs.Execution.{Outcome, pushes}
 use Rattle.machine.specs.Invocation.{Invoked}
 use Rattle.machine.specs.Steps.{fetched, class_of_method, called, rows_of}
@@ -49,12 +49,6 @@ IsCallFrom program f call = call.current ≡ class_of_method (method_at program 
 -- the pc at which a frame goes on with an exception of a class
 abbrev pub handler_in : Program → Frame → ℕ → Option ℕ
 handler_in program f class = option_map (λ found. found.1.handler) (row_for program (rows_of (code_at program f.method)) f.pc class)
-
--- ---- calls among instructions
-
-abbrev pub is_call : Instruction → Bool
-is_call (calls op owner method count) = true
-is_call _ = false
 
 -- ---- joins
 

@@ -1,0 +1,4 @@
+//! Laws of linked programs: what linking gives to the laws of typed steps.
+#![tactic(auto)]
+
+pub mod laws;
