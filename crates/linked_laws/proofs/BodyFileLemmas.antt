@@ -1,11 +1,7 @@
--- What linking gives to the methods of the program of files, but that what can't be taken is abstract.
-use Rattle.std.proofs.Common.{◌≡◌, ◌∙◌, ℕ, true, List, Some, refl, ap}
-use Rattle.jo_insn.specs.AccessFlags.{has_flag, abstract_flag}
+-- What linking gives to the methods of the program of files.
+use Rattle.std.proofs.Common.{◌∙◌, List, refl, ap}
+use Rattle.jo_insn.specs.AccessFlags.{has_flag}
 use Rattle.class_pool.specs.declared.classes.ClassFile.{ClassFile}
-use Rattle.jo_prog.specs.declared.calls.Taken.TheVariants.{Nothing}
-use Rattle.jo_prog.specs.declared.program.Method.{Method}
-use Rattle.jo_prog.specs.Calls.{taken_from}
-use Rattle.jo_prog.specs.Program.{method_at}
 use Rattle.jo_prog.specs.Shapes.{is_interface_class, interface_flag}
 use Rattle.linker.specs.Linking.{linked_classes, program_of}
 use Rattle.linker.specs.LinkOrder.{HasNoFault}
@@ -14,17 +10,17 @@ use Rattle.linked_laws.specs.Files.{AreSoundFiles}
 use Rattle.linked_laws.proofs.Outlines.{Outline, has_outline, made_by}
 use Rattle.linked_laws.proofs.FileLemmas.{begins_with_prelude, supers_of_files}
 use Rattle.linked_laws.proofs.MethodFileLemmas.{listed_class, interface_code}
+use Rattle.linked_laws.proofs.PreludeMethods.{kinds_of_files}
 
-pub bodies_of_files : (files : List ClassFile) → AreSoundFiles files → HasNoFault (linked_classes files)
-    → ((m : ℕ) (method : Method) → method_at (program_of files) m ≡ Some method → taken_from (program_of files) (Some m) ≡ Nothing → has_flag abstract_flag method.flags ≡ true) → HasSoundBodies (program_of files)
-bodies_of_files files sound none kinds =
+pub bodies_of_files : (files : List ClassFile) → AreSoundFiles files → HasNoFault (linked_classes files) → HasSoundBodies (program_of files)
+bodies_of_files files sound none =
     let begins = begins_with_prelude files in
     let object = made_by (program_of files) begins 0 _ refl refl in
     let thread = has_outline (program_of files) begins 3 _ refl in
     record {
       of_class = listed_class files;
       interfaces = interface_code files none;
-      kinds = kinds;
+      kinds = kinds_of_files files sound;
       superclasses = supers_of_files files sound none;
       object = (object.class, object.is_there, object.made);
       thread = ap is_interface_class thread.is_there ∙ ap (λ (outline : Outline). has_flag interface_flag outline.flags) thread.is_so;

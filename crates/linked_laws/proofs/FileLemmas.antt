@@ -93,7 +93,7 @@ module _ (files : List ClassFile) where
   abbrev all_names : List (List ℕ)
   all_names = class_names (linked_classes files)
 
-  names_begin : all_names ≡ map (λ (s : Spelled). s.name) prelude_spelled ++ map this_name files
+  pub names_begin : all_names ≡ map (λ (s : Spelled). s.name) prelude_spelled ++ map this_name files
   names_begin =
       map-append this_name prelude_classes files
       ∙ ap (λ (front : List (List ℕ)). front ++ map this_name files) (names_are prelude_classes prelude_spelled prelude_is_spelled)

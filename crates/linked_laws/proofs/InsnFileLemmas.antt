@@ -50,14 +50,22 @@ no_fault : {X : Type 0} (o : Option X) → is_none o ≡ true → o ≡ None
 no_fault None is = refl
 no_fault (Some x) is = absurd (cc)
 
+all_below : (bytes : List ℕ) → list_all (λ byte. nat_lt byte (2 ^ 8)) bytes ≡ true → AllByRecursion (λ byte. byte < 2 ^ 8) bytes
+all_below [] test = tt
+all_below (byte ∷ more) test =
+    let both = and_both (nat_lt byte (2 ^ 8)) (list_all (λ other. nat_lt other (2 ^ 8)) more) test in
+    (ltb-true byte (2 ^ 8) both.0, all_below more both.1)
+
 read_whole : (pool : List PoolEntry) (c : CodeInfo) (read : Result (List Placed) (ClassCode × ℕ)) → insns_of pool c.bytes ≡ read → are_whole pool c read ≡ true → HasWholeCode pool c
 read_whole pool c (Err fault) is test = absurd (cc)
 read_whole pool c (Ok insns) is test =
-    let both = and_both (nat_lt 0 (length c.bytes) && nat_lt (length c.bytes) (2 ^ 16)) _ test in
+    let whole = and_both ((nat_lt 0 (length c.bytes) && nat_lt (length c.bytes) (2 ^ 16)) && (is_none (first_bad_jump c.bytes insns insns) && is_none (row_fault pool (length c.bytes) insns 0 c.rows))) (list_all (λ byte. nat_lt byte (2 ^ 8)) c.bytes) test in
+    let both = and_both (nat_lt 0 (length c.bytes) && nat_lt (length c.bytes) (2 ^ 16)) _ whole.0 in
     let sizes = and_both (nat_lt 0 (length c.bytes)) (nat_lt (length c.bytes) (2 ^ 16)) both.0 in
     let faults = and_both (is_none (first_bad_jump c.bytes insns insns)) (is_none (row_fault pool (length c.bytes) insns 0 c.rows)) both.1 in
     record {
       insns = insns;
+      in_bytes = all_below c.bytes whole.1;
       not_empty = ltb-true 0 (length c.bytes) sizes.0;
       short = ltb-true (length c.bytes) (2 ^ 16) sizes.1;
       instructions = (insns_of_grammar pool c.bytes insns).0 is;
@@ -178,10 +186,9 @@ module _ (files : List ClassFile) (sound : AreSoundFiles files) where
   all_codes : AllByRecursion HasWholeCodes (linked_classes files)
   all_codes = all_append HasWholeCodes prelude_classes files prelude_whole (all_weaker IsSoundFile HasWholeCodes (λ file is. is.codes) files sound)
 
-  pub sound_insns : (m : ℕ) (method : Method) (code : Code) → method_at (program_of files) m ≡ Some method → method.code ≡ Some code
-      → AllByRecursion (λ byte. byte < 2 ^ 8) code.bytes → HasSoundInsns (program_of files) m code
+  pub sound_insns : (m : ℕ) (method : Method) (code : Code) → method_at (program_of files) m ≡ Some method → method.code ≡ Some code → HasSoundInsns (program_of files) m code
   unfolding program_among
-  sound_insns m method code is_method has_code bytes =
+  sound_insns m method code is_method has_code =
       let owner = owner_of files m method is_method in
       let own = own_file files method.class m owner.class method owner.is_class owner.lists is_method in
       let codes : HasWholeCodes own.0 = each_at HasWholeCodes (linked_classes files) method.class own.0 all_codes own.2 in
@@ -193,7 +200,7 @@ module _ (files : List ClassFile) (sound : AreSoundFiles files) where
       ap (λ (o : Option Method). option_and_then (λ (class : Class). slice_get class.operands index) (option_and_then (λ (x : Method). class_at (program_of files) x.class) o)) is_method
       ∙ ap (λ (o : Option Class). option_and_then (λ (class : Class). slice_get class.operands index) o) owner.is_class ∙ ap (λ (os : List Operand). slice_get os index) operands in
       record {
-        bytes = bytes;
+        bytes = subst (λ (x : Code). AllByRecursion (λ byte. byte < 2 ^ 8) x.bytes) in_file.2 in_file.1.in_bytes;
         whole = subst HasWholeInsns in_file.2 (whole_insns names own.0.pool in_file.0 in_file.1);
         new_classes = λ pc next index type among is.
             let among_own : Contains (insns_in in_file.0.bytes) (record { pc = pc; insn = Pooled 187 index; next = next }) =

@@ -3,6 +3,7 @@ mod Outlines
 mod AboveLemmas
 mod PreludeSpelled
 mod FileLemmas
+mod ByteLemmas
 mod SoundFiles
 mod StartLemmas
 mod ConstantLemmas
@@ -16,6 +17,8 @@ mod MethodLemmas
 mod CallFaultLemmas
 mod NativeLemmas
 mod MethodFileLemmas
+mod PreludeMethods
 mod BodyFileLemmas
 mod WholeLemmas
 mod InsnFileLemmas
+mod RunLemmas

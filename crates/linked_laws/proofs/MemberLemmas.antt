@@ -29,7 +29,7 @@ use Rattle.linked_laws.proofs.FileLemmas.{begins_with_prelude}
 
 -- ---- lists
 
-in_front_or_behind : {X : Type 0} (xs ys : List X) (i : ℕ) (y : X) → slice_get (xs ++ ys) i ≡ Some y
+pub in_front_or_behind : {X : Type 0} (xs ys : List X) (i : ℕ) (y : X) → slice_get (xs ++ ys) i ≡ Some y
     → (slice_get xs i ≡ Some y) ⊎ ((j : ℕ) × (i ≡ length xs + j) × (slice_get ys j ≡ Some y))
 in_front_or_behind [] ys i y at = inr (i, omega arith, at)
 in_front_or_behind (x ∷ xs) ys zero y at = inl at
@@ -45,7 +45,7 @@ front_kept [] ys i x at = absurd (none-some x at)
 front_kept (z ∷ xs) ys zero x at = at
 front_kept (z ∷ xs) ys (suc i) x at = front_kept xs ys i x at
 
-counted : (first n i : ℕ) → i < n → Contains (count_from first n) (first + i)
+pub counted : (first n i : ℕ) → i < n → Contains (count_from first n) (first + i)
 counted first zero i below = absurd (omega (arith, below))
 counted first (suc n) zero below = subst (λ (k : ℕ). Contains (count_from first (suc n)) k) (omega arith) (here first (count_from (suc first) n))
 counted first (suc n) (suc i) below =
@@ -63,7 +63,7 @@ item_at [] i below = absurd (omega (arith, below))
 item_at (x ∷ xs) zero below = (x, refl)
 item_at (x ∷ xs) (suc i) below = item_at xs i (omega (arith, below))
 
-mapped_at : {X Y : Type 0} (f : X → Y) (xs : List X) (i : ℕ) (y : Y) → slice_get (map f xs) i ≡ Some y → (x : X) × (slice_get xs i ≡ Some x) × (f x ≡ y)
+pub mapped_at : {X Y : Type 0} (f : X → Y) (xs : List X) (i : ℕ) (y : Y) → slice_get (map f xs) i ≡ Some y → (x : X) × (slice_get xs i ≡ Some x) × (f x ≡ y)
 mapped_at f [] i y at = absurd (none-some y at)
 mapped_at f (x ∷ xs) zero y at = (x, refl, same_Some (f x) y at)
 mapped_at f (x ∷ xs) (suc i) y at = mapped_at f xs i y at

@@ -61,14 +61,15 @@ pub record IsFileOf (names : List (List ℕ)) (files : List ClassFile) (place : 
   pub file : ClassFile
   pub is_file : slice_get files place ≡ Some file
   pub operands_are : class.operands ≡ operands_of names file
+  pub name_is : class.name ≡ this_name file
 
 pub file_of : (names : List (List ℕ)) (field method : ℕ) (files : List ClassFile) (place : ℕ) (class : Class) → slice_get (classes_from names field method files) place ≡ Some class → IsFileOf names files place class
 file_of names field method [] place class at = absurd (none-some class at)
 file_of names field method (file ∷ more) zero class at =
-    record { file = file; is_file = refl; operands_are = sym (ap (λ (own : Class). own.operands) (same_Some (class_of names field method file) class at)) }
+    record { file = file; is_file = refl; operands_are = sym (ap (λ (own : Class). own.operands) (same_Some (class_of names field method file) class at)); name_is = sym (ap (λ (own : Class). own.name) (same_Some (class_of names field method file) class at)) }
 file_of names field method (file ∷ more) (suc place) class at =
     let rest = file_of names (field + length file.fields) (method + length file.methods) more place class at in
-    record { file = rest.file; is_file = rest.is_file; operands_are = rest.operands_are }
+    record { file = rest.file; is_file = rest.is_file; operands_are = rest.operands_are; name_is = rest.name_is }
 
 -- an operand that stands for an entry which an instruction names
 pub record IsOfEntry (names : List (List ℕ)) (file : ClassFile) (k : ℕ) (entries : List PoolEntry) (j : ℕ) (operand : Operand) : Type 0 where

@@ -1,6 +1,6 @@
 -- What the texts of the prelude spell of the names that its hierarchy needs.
 use Rattle.std.proofs.Common.{◌≡◌, ◌∙◌, ℕ, Bool, true, false, ◌||◌, List, [], ◌∷◌, ◌++◌, map, Option, Some, None, refl, ap}
-use Rattle.std.specs.Prelude.{codes, is_none, nat_lt, ◌&&◌, ◌^◌, length, Result, Ok, Err}
+use Rattle.std.specs.Prelude.{codes, is_none, is_some, nat_lt, ◌&&◌, ◌^◌, length, Result, Ok, Err}
 use Rattle.std.specs.List.{flat_map, list_all}
 use Rattle.std.proofs.lemmas.List.{map-append}
 use Rattle.asm_text.specs.Words.{bytes_in, name_in, quoted_in, number_in}
@@ -27,7 +27,7 @@ use Rattle.class_asm.specs.Encoding.{need_operand, operation_bytes}
 use Rattle.hierarchy.specs.Resolutions.{is_of_method}
 use Rattle.prelude.specs.Texts.{object_text, string_text, runnable_text, thread_text, throwable_text, exception_text, exceptions, lower_texts}
 use Rattle.prelude.specs.Classes.{class_of_text, object_classes, prelude_classes}
-use Rattle.linker.specs.Linking.{this_name}
+use Rattle.linker.specs.Linking.{this_name, text_at}
 
 -- the descriptor of a method, or of a field
 abbrev pub is_typed : Option (List ℕ) → Bool
@@ -43,15 +43,25 @@ names_typed pool _ = true
 
 abbrev pub are_whole : List PoolEntry → CodeInfo → Result (List Placed) (ClassCode × ℕ) → Bool
 are_whole pool c (Err fault) = false
-are_whole pool c (Ok insns) = (nat_lt 0 (length c.bytes) && nat_lt (length c.bytes) (2 ^ 16)) && (is_none (first_bad_jump c.bytes insns insns) && is_none (row_fault pool (length c.bytes) insns 0 c.rows))
+are_whole pool c (Ok insns) = (nat_lt 0 (length c.bytes) && nat_lt (length c.bytes) (2 ^ 16)) && (is_none (first_bad_jump c.bytes insns insns) && is_none (row_fault pool (length c.bytes) insns 0 c.rows)) && list_all (λ byte. nat_lt byte (2 ^ 8)) c.bytes
 
 -- the instructions of the code stand one behind another up to its end, and jump and are caught where one stands
 abbrev pub is_whole_if_any : List PoolEntry → Option CodeInfo → Bool
 is_whole_if_any pool None = true
 is_whole_if_any pool (Some c) = are_whole pool c (insns_of pool c.bytes)
 
+-- a method by its name, descriptor and flags, and whether it has code
+pub record Head : Type 0 where
+  pub name : List ℕ
+  pub desc : List ℕ
+  pub flags : ℕ
+  pub coded : Bool
+
+abbrev pub head_of : List PoolEntry → MethodInfo → Head
+head_of pool info = record { name = text_at pool info.name; desc = text_at pool info.desc; flags = info.flags; coded = is_some info.code }
+
 -- a class with the names of its superclass and interfaces, the constant of each of its fields, and whether its pool names members that
--- have descriptors and its code is whole
+-- have descriptors and its code is whole, and its methods
 pub record Spelled : Type 0 where
   pub name : List ℕ
   pub flags : ℕ
@@ -60,6 +70,7 @@ pub record Spelled : Type 0 where
   pub constants : List (Option ℕ)
   pub typed : Bool
   pub whole : Bool
+  pub methods : List Head
 
 abbrev pub spelled_of : ClassFile → Spelled
 spelled_of file = record {
@@ -70,26 +81,46 @@ spelled_of file = record {
   constants = map (λ (field : FieldInfo). field.constant) file.fields;
   typed = list_all (names_typed file.pool) file.pool;
   whole = list_all (λ (method : MethodInfo). is_whole_if_any file.pool method.code) file.methods;
+  methods = map (head_of file.pool) file.methods;
 }
 
+abbrev public : List ℕ → List ℕ → Head
+public name desc = record { name = name; desc = desc; flags = 0x0001; coded = true }
+
+-- one of the machine's
+abbrev bodiless : List ℕ → Head
+bodiless name = record { name = name; desc = codes "()V"; flags = 0x0001; coded = false }
+
+abbrev exception_heads : List Head
+exception_heads = public (codes "<init>") (codes "()V") ∷ public (codes "<init>") (codes "(Ljava/lang/String;)V") ∷ []
+
+abbrev pub run_head : Head
+run_head = public (codes "run") (codes "()V")
+
+abbrev pub thread_heads : List Head
+thread_heads = public (codes "<init>") (codes "()V") ∷ public (codes "<init>") (codes "(Ljava/lang/Runnable;)V") ∷ run_head ∷ bodiless (codes "start") ∷ bodiless (codes "join") ∷ []
+
 abbrev pub below : List ℕ → List ℕ → Spelled
-below name above = record { name = codes "java/lang/" ++ name; flags = 0x0021; superclass = Some (codes "java/lang/" ++ above); interfaces = []; constants = []; typed = true; whole = true }
+below name above = record { name = codes "java/lang/" ++ name; flags = 0x0021; superclass = Some (codes "java/lang/" ++ above); interfaces = []; constants = []; typed = true; whole = true; methods = exception_heads }
 
 abbrev object_spelled : Spelled
-object_spelled = record { name = codes "java/lang/Object"; flags = 0x0021; superclass = None; interfaces = []; constants = []; typed = true; whole = true }
+object_spelled = record { name = codes "java/lang/Object"; flags = 0x0021; superclass = None; interfaces = []; constants = []; typed = true; whole = true; methods = public (codes "<init>") (codes "()V") ∷ public (codes "equals") (codes "(Ljava/lang/Object;)Z") ∷ [] }
+
+abbrev string_spelled : Spelled
+string_spelled = record { name = codes "java/lang/String"; flags = 0x0021; superclass = Some (codes "java/lang/Object"); interfaces = []; constants = []; typed = true; whole = true; methods = [] }
 
 abbrev runnable_spelled : Spelled
-runnable_spelled = record { name = codes "java/lang/Runnable"; flags = 0x0601; superclass = Some (codes "java/lang/Object"); interfaces = []; constants = []; typed = true; whole = true }
+runnable_spelled = record { name = codes "java/lang/Runnable"; flags = 0x0601; superclass = Some (codes "java/lang/Object"); interfaces = []; constants = []; typed = true; whole = true; methods = record { name = codes "run"; desc = codes "()V"; flags = 0x0401; coded = false } ∷ [] }
 
-abbrev thread_spelled : Spelled
-thread_spelled = record { name = codes "java/lang/Thread"; flags = 0x0021; superclass = Some (codes "java/lang/Object"); interfaces = Some (codes "java/lang/Runnable") ∷ []; constants = None ∷ []; typed = true; whole = true }
+abbrev pub thread_spelled : Spelled
+thread_spelled = record { name = codes "java/lang/Thread"; flags = 0x0021; superclass = Some (codes "java/lang/Object"); interfaces = Some (codes "java/lang/Runnable") ∷ []; constants = None ∷ []; typed = true; whole = true; methods = thread_heads }
 
 abbrev throwable_spelled : Spelled
-throwable_spelled = record { name = codes "java/lang/Throwable"; flags = 0x0021; superclass = Some (codes "java/lang/Object"); interfaces = []; constants = None ∷ []; typed = true; whole = true }
+throwable_spelled = record { name = codes "java/lang/Throwable"; flags = 0x0021; superclass = Some (codes "java/lang/Object"); interfaces = []; constants = None ∷ []; typed = true; whole = true; methods = exception_heads ++ public (codes "getMessage") (codes "()Ljava/lang/String;") ∷ [] }
 
 abbrev lower_spelled : List Spelled
 lower_spelled =
-    below (codes "String") (codes "Object") ∷ runnable_spelled ∷ thread_spelled ∷ throwable_spelled
+    string_spelled ∷ runnable_spelled ∷ thread_spelled ∷ throwable_spelled
     ∷ below (codes "Exception") (codes "Throwable")
     ∷ below (codes "Error") (codes "Throwable")
     ∷ below (codes "RuntimeException") (codes "Exception")
@@ -121,7 +152,7 @@ spells-object : map spelled_of object_classes ≡ object_spelled ∷ []
 unfolding class_of_text assembled need need_text need_class need_constant need_member code_line member_line line_by need_operand operation_bytes bytes_in name_in quoted_in number_in lines_of pieces items_of words statement_of names_on read_class letter_base read_base read_desc kind_names name_of_kind kind_named opcodes row_of opcode_named decoded insns_from object_text
 spells-object = refl
 
-spells-string : Spells string_text (below (codes "String") (codes "Object"))
+spells-string : Spells string_text string_spelled
 unfolding class_of_text assembled need need_text need_class need_constant need_member code_line member_line line_by need_operand operation_bytes bytes_in name_in quoted_in number_in lines_of pieces items_of words statement_of names_on read_class letter_base read_base read_desc kind_names name_of_kind kind_named opcodes row_of opcode_named decoded insns_from string_text
 spells-string = refl
 

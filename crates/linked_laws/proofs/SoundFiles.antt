@@ -1,5 +1,5 @@
 -- A class that was read is sound.
-use Rattle.std.proofs.Common.{◌≡◌, ℕ, ◌<◌, ◌^◌, Bool, true, List, [], ◌++◌, length, Option, Some, None, refl, ap, subst, arith}
+use Rattle.std.proofs.Common.{◌≡◌, ℕ, ◌<◌, ◌^◌, Bool, true, List, [], ◌++◌, length, Option, Some, None, refl, sym, ap, subst, arith}
 use Rattle.std.specs.List.{AllByRecursion}
 use Rattle.std.specs.Option.{IsSomeAnd}
 use Rattle.std.proofs.lemmas.Option.{none-some, same_Some}
@@ -14,10 +14,11 @@ use Rattle.class_pool.proofs.KeptAgain.{again, all_same, jumps_again, rows_again
 use Rattle.class_pool.proofs.GrammarBytes.{AllBytes, InBytes, bytes_behind, each_in_bytes, code_bytes, contents_bytes, methods_bytes}
 use Rattle.jo_insn.proofs.Numbers.{are_bytes}
 use Rattle.class_pool.specs.Pool.{entry_at, utf8_at}
-use Rattle.class_pool.specs.ClassGrammar.{Attribute, HasConstant, no_constant, not_constant, constant_value, SpellsField, IsClass, u2, codes_in, HasCodes, no_code, not_code, code_attribute, SpellsCode, SpellsMethod}
+use Rattle.class_pool.specs.ClassGrammar.{Attribute, HasConstant, no_constant, not_constant, constant_value, SpellsField, IsClass, u2, codes_in, HasCodes, no_code, not_code, code_attribute, SpellsCode, SpellsMethod, HasBody}
 use Rattle.class_pool.specs.ClassOrder.{fits_constant}
 use Rattle.class_pool.proofs.GrammarFits.{each_so, pool_fits}
-use Rattle.linked_laws.specs.Files.{HasFittingConstant, HasWholeCode, HasWholeCodeIfAny, HasWholeCodes, IsSoundFile}
+use Rattle.linked_laws.specs.Files.{HasFittingConstant, HasWholeCode, HasWholeCodeIfAny, HasWholeCodes, HasBodies, IsSoundFile}
+use Rattle.linked_laws.proofs.ByteLemmas.{canonical_bytes}
 
 constant_fits : (pool : List PoolEntry) (static : Bool) (desc : ℕ) (attributes : List Attribute) (o : Option ℕ) → HasConstant pool static desc attributes o
     → (k : ℕ) → o ≡ Some k → IsSomeAnd (utf8_at pool desc) (λ text. fits_constant text (entry_at pool k) ≡ true)
@@ -44,6 +45,7 @@ code_whole pool c content all h =
     let few : length code < 2 ^ 16 = h.short in
     record {
       insns = h.insns;
+      in_bytes = subst AllBytes (sym h.kept) (canonical_bytes pool code (code_bytes pool c content all h) h.insns h.instructions);
       not_empty = omega arith;
       short = omega arith;
       instructions = again pool code bytes c.bytes [] h.instructions refl kept;
@@ -69,6 +71,11 @@ methods_whole bytes file all is =
     let inside = bytes_behind (u2 (length file.methods)) items (subst AllBytes both (methods_bytes bytes file all is)) in
     each_so (InBytes (SpellsMethod file.pool)) (λ (method : MethodInfo). HasWholeCodeIfAny file.pool method.code) (method_whole file.pool) file.methods items (each_in_bytes (SpellsMethod file.pool) file.methods items inside each)
 
+bodies_kept : (bytes : List ℕ) (file : ClassFile) → IsClass bytes file → HasBodies file
+bodies_kept bytes file is =
+    let (items, both, few, each) = is.methods in
+    each_so (SpellsMethod file.pool) (λ (method : MethodInfo). HasBody method.flags method.code) (λ method own spelled. spelled.has_body) file.methods items each
+
 pub read_is_sound : (bytes : List ℕ) (file : ClassFile) → AllBytes bytes → IsClass bytes file → IsSoundFile file
 read_is_sound bytes file all is = record {
   superclass = is.super_class;
@@ -76,4 +83,5 @@ read_is_sound bytes file all is = record {
   references = is.references;
   constants = each_so (SpellsField file.pool) (HasFittingConstant file.pool) (field_fits file.pool) file.fields is.fields.0 is.fields.3;
   codes = methods_whole bytes file all is;
+  bodies = bodies_kept bytes file is;
 }

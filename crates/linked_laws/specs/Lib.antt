@@ -1,3 +1,4 @@
 pub mod Files
 pub mod Codes
 pub mod Bodies
+pub mod RunStates

@@ -12,10 +12,10 @@ ghost use Rattle.jo_prog.specs.Program.{class_at, method_at};
 ghost use Rattle.jo_prog.specs.declared.program.Class.{Class};
 ghost use Rattle.jo_prog.specs.declared.program.TypeRef.TheVariants.{Class as OfClass};
 ghost use Rattle.jo_prog.specs.Shapes.{is_interface};
-ghost use Rattle.jo_insn.specs.AccessFlags.{has_flag, abstract_flag};
-ghost use Rattle.jo_prog.specs.Calls.{taken_from};
-ghost use Rattle.jo_prog.specs.declared.calls.Taken.TheVariants.{Nothing};
-ghost use Rattle.jo_prog.specs.Machine.{start};
+ghost use Rattle.jo_prog.specs.Machine.{State, Stepped, start};
+ghost use Rattle.machine.specs.Runs.{enabled};
+ghost use Rattle.machine.specs.Steps.{step};
+ghost use Rattle.linked_laws.specs.RunStates.{IsStateOfRun};
 ghost use Rattle.jo_prog.specs.PlainCode.{IsEntry, IsWellLabelled};
 ghost use Rattle.class_pool.specs.declared.classes.ClassFile.{ClassFile};
 ghost use Rattle.class_pool.specs.ClassGrammar.{IsClass};
@@ -32,10 +32,13 @@ ghost use Rattle.program_faults.specs.SuperFaults.{HasMisplacedParent};
 ghost use Rattle.program_faults.specs.BodyFaults.{IsNotImplemented};
 ghost use Rattle.program_faults.specs.MemberFaults.{LacksMember};
 ghost use Rattle.program_faults.specs.UsedOperands.{methods_of};
-ghost use Rattle.kept_laws.specs.Premises.{HasSoundCalls, HasSoundMethods, HasThreadMethods, AreNativesLabelled};
+ghost use Rattle.kept_laws.specs.Premises.{HasSoundCalls, HasSoundMethods, HasThreadMethods, AreNativesLabelled, AreInts, HasPremises};
+ghost use Rattle.kept_laws.specs.Paths.{AreAllTyped};
+ghost use Rattle.jo_prog.specs.declared.runs.SourceInput.{SourceInput};
 ghost use Rattle.linked_laws.specs.Bodies.{HasSoundBodies, HasPreludeMethods};
 
 use jo_prog::laws::strings_have_objects;
+use kept_laws::laws::typed_steps_go_on;
 use prelude::laws::classes_fit;
 
 /// A class file that was read is sound.
@@ -92,13 +95,13 @@ pub fn linked_programs_have_sound_pools()
 /// The instructions of the program of sound files stand one behind another, and `new` names no array.
 pub fn linked_code_is_whole()
     ensures { (files : List ClassFile) → AreSoundFiles files → (m : ℕ) (method : Method) (code : Code) → method_at (program_of files) m ≡ Some method
-        → method.code ≡ Some code → AllByRecursion (λ byte. byte < 2 ^ 8) code.bytes → HasSoundInsns (program_of files) m code }
+        → method.code ≡ Some code → HasSoundInsns (program_of files) m code }
 {}
 
 /// Where they have no fault, its code is sound.
 pub fn linked_code_is_sound()
     ensures { (files : List ClassFile) → AreSoundFiles files → HasNoFault (linked_classes files) → (m : ℕ) (method : Method) (code : Code) → method_at (program_of files) m ≡ Some method
-        → method.code ≡ Some code → AllByRecursion (λ byte. byte < 2 ^ 8) code.bytes → HasSoundCode (program_of files) m code }
+        → method.code ≡ Some code → HasSoundCode (program_of files) m code }
 {
     linked_hierarchies_are_sound();
     linked_programs_have_sound_members();
@@ -132,8 +135,44 @@ pub fn linked_methods_are_of_their_classes()
     ensures interfaces { (files : List ClassFile) → HasNoFault (linked_classes files) → (m : ℕ) (method : Method) (code : Code) → method_at (program_of files) m ≡ Some method → method.code ≡ Some code → is_interface (program_of files) (OfClass method.class) ≡ false }
 {}
 
-/// In the program of sound files without a fault methods have bodies as linking asks, if what can't be taken is abstract.
+/// In the program of sound files without a fault methods have bodies as linking asks.
 pub fn linked_programs_have_sound_bodies()
-    ensures { (files : List ClassFile) → AreSoundFiles files → HasNoFault (linked_classes files)
-        → ((m : ℕ) (method : Method) → method_at (program_of files) m ≡ Some method → taken_from (program_of files) (Some m) ≡ Nothing → has_flag abstract_flag method.flags ≡ true) → HasSoundBodies (program_of files) }
+    ensures { (files : List ClassFile) → AreSoundFiles files → HasNoFault (linked_classes files) → HasSoundBodies (program_of files) }
 {}
+
+/// In the program of files without a fault no method of the prelude is native, and those of java/lang/Thread are of instances, run
+/// among them.
+pub fn linked_programs_have_prelude_methods()
+    ensures { (files : List ClassFile) → HasNoFault (linked_classes files) → HasPreludeMethods (program_of files) }
+{}
+
+/// The program of sound files without a fault, whose methods are all typed, has the premises of typed steps, under labels that fit
+/// it and inputs of ints.
+pub fn linked_programs_have_premises()
+    ensures { (files : List ClassFile) → AreSoundFiles files → HasNoFault (linked_classes files) → (labels : Labels) → IsWellLabelled (program_of files) labels → AreAllTyped (program_of files)
+        → (inputs : List SourceInput) → AreInts inputs → HasPremises (program_of files) labels inputs }
+{
+    linked_hierarchies_are_sound();
+    linked_programs_raise_throwables();
+    linked_programs_have_sound_members();
+    linked_code_is_whole();
+    linked_code_is_sound();
+    linked_programs_have_sound_bodies();
+    linked_programs_have_prelude_methods();
+    natives_and_threads_are_sound();
+    methods_without_faults_are_sound();
+    calls_without_faults_are_sound();
+}
+
+/// No step of such a program is stuck: each state that a run comes to is typed, and each thread that may step there has a next step.
+pub fn no_linked_step_is_stuck()
+    ensures typed { (files : List ClassFile) → AreSoundFiles files → HasNoFault (linked_classes files) → (labels : Labels) → IsWellLabelled (program_of files) labels → AreAllTyped (program_of files)
+        → (inputs : List SourceInput) → AreInts inputs → (s : State) → IsStateOfRun (program_of files) labels inputs s → IsTypedState (program_of files) s }
+    ensures steps { (files : List ClassFile) → AreSoundFiles files → HasNoFault (linked_classes files) → (labels : Labels) → IsWellLabelled (program_of files) labels → AreAllTyped (program_of files)
+        → (inputs : List SourceInput) → AreInts inputs → (s : State) → IsStateOfRun (program_of files) labels inputs s → (t : ℕ) → Contains (enabled (program_of files) labels s) t
+        → (next : Stepped) × (step (program_of files) labels inputs s t ≡ Some next) }
+{
+    linked_programs_have_premises();
+    first_states_of_linked_programs_are_typed();
+    typed_steps_go_on();
+}

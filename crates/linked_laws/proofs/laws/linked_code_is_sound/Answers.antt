@@ -16,6 +16,6 @@ no_program_fault files none StaticInit c fault = absurd fault
 no_program_fault files none Memory c fault = absurd fault
 
 pub returns : goal.returns
-returns c = λ files sound none m method code is_method has_code bytes.
+returns c = λ files sound none m method code is_method has_code.
     c.code_without_faults_is_sound.ensures (program_of files) (c.linked_hierarchies_are_sound.ensures files sound none) (no_program_fault files none)
-    (c.linked_programs_have_sound_pools.ensures files sound none) (c.linked_programs_have_sound_members.ensures files none) m method code is_method has_code (c.linked_code_is_whole.ensures files sound m method code is_method has_code bytes)
+    (c.linked_programs_have_sound_pools.ensures files sound none) (c.linked_programs_have_sound_members.ensures files none) m method code is_method has_code (c.linked_code_is_whole.ensures files sound m method code is_method has_code)
