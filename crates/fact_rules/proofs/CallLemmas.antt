@@ -19,7 +19,7 @@ use Rattle.fact_rules.proofs.SeenLemmas.{was_kept, kept_known, seen_adds}
 abbrev pub CallGivesAt : {C : Type 0} → FactLists C → ℕ → Fact C → Type 0
 CallGivesAt {C} lists place f = (fact : Fact C) × IsFactAt lists place fact × CallGives (HasFact lists) fact f
 
-at_same : {C : Type 0} (lists : FactLists C) (place : ℕ) (f g : Fact C) → IsFactAt lists place f → IsFactAt lists place g → f ≡ g
+pub at_same : {C : Type 0} (lists : FactLists C) (place : ℕ) (f g : Fact C) → IsFactAt lists place f → IsFactAt lists place g → f ≡ g
 at_same lists place f g one other =
     same_fact lists.instances lists.objects one.numbered other.numbered f g one.says other.says (same_Some one.numbered other.numbered (sym one.at ∙ other.at))
 
@@ -27,12 +27,12 @@ pub gives_at : {C : Type 0} (lists : FactLists C) (place : ℕ) (fact : Fact C) 
 gives_at lists place fact at f =
     (λ gives. (fact, at, gives), λ there. subst (λ q. CallGives (HasFact lists) q f) (at_same lists place there.0 fact there.1 at) there.2)
 
-place_of : {C : Type 0} (lists : FactLists C) (fact : Fact C) → HasFact lists fact → (place : ℕ) × (place < length lists.facts) × IsFactAt lists place fact
+pub place_of : {C : Type 0} (lists : FactLists C) (fact : Fact C) → HasFact lists fact → (place : ℕ) × (place < length lists.facts) × IsFactAt lists place fact
 place_of lists fact has =
     let (k, below, is) = has.there in
     (k, below, record { numbered = has.numbered; at = slice_get-get_or lists.facts k has.numbered below ∙ ap Some is; says = has.says })
 
-has_at : {C : Type 0} (lists : FactLists C) (place : ℕ) (fact : Fact C) → IsFactAt lists place fact → HasFact lists fact
+pub has_at : {C : Type 0} (lists : FactLists C) (place : ℕ) (fact : Fact C) → IsFactAt lists place fact → HasFact lists fact
 has_at lists place fact at = record { numbered = at.numbered; there = contains_at lists.facts place at.numbered at.at; says = at.says }
 
 module _ {C : Type 0} (facts : Fact C → Type 0) where

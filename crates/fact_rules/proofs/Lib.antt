@@ -3,3 +3,15 @@ pub mod SeenLemmas
 pub mod CallLemmas
 pub mod KeptLemmas
 pub mod RuleLemmas
+pub mod CycleLemmas
+pub mod PlaceLemmas
+pub mod ValueLemmas
+pub mod CellLemmas
+pub mod ListLevel
+pub mod FirstLemmas
+pub mod LoopLemmas
+pub mod RaiseLemmas
+pub mod NamedLemmas
+pub mod CatchLemmas
+pub mod TargetLemmas
+pub mod TargetRuleLemmas

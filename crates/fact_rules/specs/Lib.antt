@@ -1,3 +1,13 @@
 pub mod Adds
 pub mod Additions
 pub mod CallRules
+pub mod FirstRules
+pub mod CycleRules
+pub mod Places
+pub mod ValueSteps
+pub mod RaiseRules
+pub mod NamedNodes
+pub mod CatchRules
+pub mod CellSteps
+pub mod Callees
+pub mod TargetRules

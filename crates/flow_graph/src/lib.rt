@@ -9,3 +9,5 @@ mod steps;
 #[cfg(test)]
 mod tests;
 pub mod wide;
+
+pub use node_places::parameters;

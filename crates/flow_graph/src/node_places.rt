@@ -428,8 +428,8 @@ fn counted(desc: &MethodDesc, flags: u16) -> usize
     desc.params.as_slice().len() + this
 }
 
-/// How many parameters a method has, `this` included.
-fn parameters(alloc: Global, program: &Program, method: MethodId) -> Result<Option<usize>, Memory>
+/// How many parameters a method has, `this` included. `None` where there is no such method, or its descriptor is none.
+pub fn parameters(alloc: Global, program: &Program, method: MethodId) -> Result<Option<usize>, Memory>
     ensures { IfOk result (λ count. AreParameters program.now method count) }
 {
     let Some(method) = method_at(program, method) else {
