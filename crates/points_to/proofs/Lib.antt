@@ -1,0 +1,9 @@
+pub mod ClosureLemmas
+pub mod GroupLemmas
+pub mod TakeLemmas
+pub mod KeptLemmas
+pub mod HeightLemmas
+pub mod MoreLemmas
+pub mod MethodLemmas
+pub mod AdvanceLemmas
+pub mod NodesThereLemmas
