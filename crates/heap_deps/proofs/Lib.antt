@@ -1,0 +1,10 @@
+pub mod ItemLemmas
+pub mod GrowLemmas
+pub mod CellEdgeLemmas
+pub mod ObjectLemmas
+pub mod HeldLemmas
+pub mod UseLemmas
+pub mod StartLemmas
+pub mod CallLemmas
+pub mod InstanceLemmas
+pub mod NumberLemmas
