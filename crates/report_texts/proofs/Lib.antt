@@ -1,0 +1,11 @@
+mod Steps
+mod NameBytes
+mod NameReads
+mod NumberReads
+mod SiteReads
+mod ContextReads
+mod AmongReads
+mod NodeReads
+mod LineReads
+mod ReportReads
+mod OneReport

@@ -1,0 +1,4 @@
+pub mod Parts
+pub mod NodeTexts
+pub mod Reports
+pub mod Reading
