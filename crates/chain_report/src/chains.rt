@@ -1,52 +1,16 @@
-//! Reports on illegal chains.
-ghost use Rattle.std.specs.Prelude.{◌≡◌, ◌++◌, Some, OnOk, IfOk, option_map};
+//! Reports on illegal chains of a plain graph.
+ghost use Rattle.std.specs.Prelude.{◌≡◌, ◌++◌, Some, OnOk, IfOk, option_map, codes};
 ghost use Rattle.std.specs.List.{flat_map};
 ghost use Rattle.dep_nodes.specs.Nodes.{Node, node_named};
 ghost use Rattle.dep_nodes.specs.Graphs.{graph_node, link_of, links_of};
-ghost use Rattle.chain_report.specs.Report.{chain_text, level_name, spelled_edge, spelled_word, step_line, step_text};
-ghost use Rattle.chain_report.specs.Nodes.{spelled_node};
+ghost use Rattle.chain_report.specs.Report.{chain_text, node_line, step_line, step_text};
 
-use crate::nodes::push_node;
-use dep_nodes::{Chain, EdgeKind, Graph, NodeName, Step, Word};
+use crate::lines::{push_heading, push_node_end, push_word};
+use dep_nodes::{Chain, Graph, NodeName, Step};
 use jo_ids::{LevelId, NodeId};
 use jo_prog::labels::Labels;
 use jo_prog::program::Program;
-use jo_text::push_escaped;
 use std::alloc::{AllocError as Memory, Global};
-
-fn push_edge(out: &mut Vec<u8>, kind: EdgeKind) -> Result<(), Memory>
-    ensures { OnOk result (out.new.items ≡ out.old.items ++ spelled_edge kind) }
-{
-    let word: &[u8] = match kind {
-        EdgeKind::Data => b"data",
-        EdgeKind::Control => b"control",
-        EdgeKind::Out => b"out",
-        EdgeKind::Arg => b"arg",
-        EdgeKind::Call => b"call",
-        EdgeKind::Ret => b"ret",
-        EdgeKind::Heap => b"heap",
-        EdgeKind::Fork => b"fork",
-    };
-    out.extend_from_slice(word)
-}
-
-fn push_word(out: &mut Vec<u8>, word: Word) -> Result<(), Memory>
-    ensures { OnOk result (out.new.items ≡ out.old.items ++ spelled_word word) }
-{
-    match word {
-        Word::Edge(kind) => push_edge(out, kind),
-        Word::Pass => out.extend_from_slice(b"pass"),
-    }
-}
-
-fn push_level(out: &mut Vec<u8>, labels: &Labels, level: LevelId) -> Result<(), Memory>
-    ensures { OnOk result (out.new.items ≡ out.old.items ++ level_name labels.now level) }
-{
-    match labels.levels.as_slice().get(level.number() as usize) {
-        Some(name) => push_escaped(out, name.as_slice()),
-        None => Ok(()),
-    }
-}
 
 /// The name of a node by its number.
 fn node_name(graph: &Graph, node: NodeId) -> Option<&NodeName>
@@ -68,10 +32,7 @@ fn push_step(
     match node_name(graph, step.to) {
         Some(name) => {
             push_word(out, step.word)?;
-            out.push(b' ')?;
-            push_node(alloc, out, program, name)?;
-            out.push(b'\n')?;
-            Ok(())
+            push_node_end(alloc, out, program, name)
         }
         None => Ok(()),
     }
@@ -99,10 +60,13 @@ fn push_start(
     graph: &Graph,
     node: NodeId,
 ) -> Result<(), Memory>
-    ensures { OnOk result ((from : Node) → graph_node graph.now node ≡ Some from → out.new.items ≡ out.old.items ++ spelled_node program.now from) }
+    ensures { OnOk result ((from : Node) → graph_node graph.now node ≡ Some from → out.new.items ≡ out.old.items ++ node_line program.now (codes "from") from) }
 {
     match node_name(graph, node) {
-        Some(name) => push_node(alloc, out, program, name),
+        Some(name) => {
+            out.extend_from_slice(b"from")?;
+            push_node_end(alloc, out, program, name)
+        }
         None => Ok(()),
     }
 }
@@ -120,11 +84,8 @@ pub fn report(
         → text.items ≡ chain_text program.now labels.now observer from (links_of graph.now chain.now.steps)) }
 {
     let mut out = Vec::new(alloc);
-    out.extend_from_slice(b"joana report 1\nrefused chain\nobserver ")?;
-    push_level(&mut out, labels, observer)?;
-    out.extend_from_slice(b"\nfrom ")?;
+    push_heading(&mut out, b"chain", labels, observer)?;
     push_start(alloc, &mut out, program, graph, chain.start)?;
-    out.push(b'\n')?;
     push_steps(alloc, &mut out, program, graph, chain.steps.as_slice())?;
     out.extend_from_slice(b"end\n")?;
     Ok(out)

@@ -13,7 +13,7 @@ use Rattle.thread_regions.specs.declared.tables.ForkRegions.{ForkRegions}
 use Rattle.thread_regions.proofs.FirstLemmas.{some_same}
 use Rattle.conflicts.specs.declared.clashes.Wanted.{Wanted}
 use Rattle.conflicts.specs.declared.clashes.Wanted.TheVariants.{Any, Write}
-use Rattle.conflicts.specs.declared.finding.Conflict.{Conflict}
+use Rattle.thread_regions.specs.declared.conflicting.Conflict.{Conflict}
 use Rattle.conflicts.specs.Clashes.{IsOn, AreOnBoth, IsOnBoth, AreClashing, IsClash}
 use Rattle.conflicts.specs.Finding.{AreClashingAt, IsAt, IsDataAtCells, IsDataAt}
 

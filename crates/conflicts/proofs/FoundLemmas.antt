@@ -8,7 +8,7 @@ use Rattle.dep_nodes.specs.Conflicts.{Clash, MayClash}
 use Rattle.thread_regions.specs.declared.tables.ForkRegions.{ForkRegions}
 use Rattle.thread_regions.specs.Regions.{AreRegions}
 use Rattle.thread_regions.proofs.TableLemmas.{stands_at, is_parallel, has_parallel}
-use Rattle.conflicts.specs.declared.finding.Conflict.{Conflict}
+use Rattle.thread_regions.specs.declared.conflicting.Conflict.{Conflict}
 use Rattle.conflicts.specs.Finding.{IsIn, IsOrderConflict, IsDataConflict, HasNoOrderConflict, HasNoDataConflict, IsConflictOfKind, IsFirstConflict, IsOrderAmong, IsDataAmong}
 
 swapped : (a b : Access) → Clash a b → Clash b a

@@ -7,7 +7,7 @@ use Rattle.dep_nodes.specs.declared.dependence_graph.GraphNode.{GraphNode}
 use Rattle.dep_nodes.specs.Regions.{ParallelAt}
 use Rattle.dep_nodes.specs.Conflicts.{MayClash, OrderConflict, DataConflict}
 use Rattle.thread_regions.specs.declared.tables.ForkRegions.{ForkRegions}
-use Rattle.conflicts.specs.declared.finding.Conflict.{Conflict}
+use Rattle.thread_regions.specs.declared.conflicting.Conflict.{Conflict}
 use Rattle.conflicts.specs.Clashes.{AreClashing}
 
 -- ---- the answer

@@ -6,18 +6,8 @@ ghost use Rattle.conflicts.specs.Finding.{IsIn, IsOrderAt, IsOrderAmong, IsDataA
 use crate::clashes::clash;
 use crate::sides::{Side, first_seen};
 use dep_nodes::{CellAccesses, DependenceGraph};
-use jo_ids::{BitRow, Id, NodeId};
-use thread_regions::{ForkRegions, Regions};
-
-/// Two nodes that conflict at a fork: the one runs in what the fork starts, the other behind the fork.
-#[derive(Clone, Copy)]
-pub struct Conflict {
-    /// Whether it is an order conflict; else it is a data conflict.
-    pub order: bool,
-    pub fork: NodeId,
-    pub inside: NodeId,
-    pub after: NodeId,
-}
+use jo_ids::{BitRow, Id};
+use thread_regions::{Conflict, ForkRegions, Regions};
 
 /// An order conflict between two nodes of `visible` if there is one, else a data conflict between two nodes of `leads`; none
 /// where there is neither. The regions are those of the graph. No memory; linear in the nodes and accesses for each fork.

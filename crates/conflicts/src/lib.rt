@@ -5,7 +5,8 @@ mod clashes;
 mod finding;
 mod sides;
 
-pub use finding::{Conflict, find};
+pub use finding::find;
+pub use thread_regions::Conflict;
 
 #[cfg(test)]
 mod tests;
