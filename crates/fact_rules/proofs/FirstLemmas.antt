@@ -28,7 +28,7 @@ same_parameters program m one other a b =
     let method : a.method ≡ b.method = same_Some a.method b.method (sym a.is ∙ b.is) in
     let desc : a.desc ≡ b.desc = method_once b.method.desc a.desc b.desc (subst (λ (x : Method). SpellsMethod a.desc x.desc) method a.spells) b.spells in
     let count : length a.desc.params + (if has_flag static_flag a.method.flags then 0 else 1) ≡ length b.desc.params + (if has_flag static_flag b.method.flags then 0 else 1) =
-        ap (λ (d : MethodDesc). length d.params + (if has_flag static_flag a.method.flags then 0 else 1)) desc ∙ ap (λ (x : Method). length b.desc.params + (if has_flag static_flag x.flags then 0 else 1)) method in
+    ap (λ (d : MethodDesc). length d.params + (if has_flag static_flag a.method.flags then 0 else 1)) desc ∙ ap (λ (x : Method). length b.desc.params + (if has_flag static_flag x.flags then 0 else 1)) method in
     a.counts ∙ count ∙ sym b.counts
 
 pub told_by_count : (program : Program) (m count : ℕ) → HasParameters program m count → IsTrue (nat_lt 0 count) ↔ HasParameter program m

@@ -3,11 +3,11 @@
 
 mod additions;
 pub mod call_rules;
-pub mod first_rules;
-pub mod cycle_rules;
 pub mod callees;
 pub mod catch_rules;
 pub mod cell_rules;
+pub mod cycle_rules;
+pub mod first_rules;
 mod places;
 pub mod raise_rules;
 pub mod target_rules;

@@ -429,7 +429,11 @@ fn counted(desc: &MethodDesc, flags: u16) -> usize
 }
 
 /// How many parameters a method has, `this` included. `None` where there is no such method, or its descriptor is none.
-pub fn parameters(alloc: Global, program: &Program, method: MethodId) -> Result<Option<usize>, Memory>
+pub fn parameters(
+    alloc: Global,
+    program: &Program,
+    method: MethodId,
+) -> Result<Option<usize>, Memory>
     ensures { IfOk result (λ count. AreParameters program.now method count) }
 {
     let Some(method) = method_at(program, method) else {

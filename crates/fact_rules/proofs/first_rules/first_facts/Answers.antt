@@ -20,7 +20,7 @@ returns g c =
     let v = Listed list c.add_fields.new.following.items in
     let e = ap Reached (in_first list entry c.root.result c.root.ensures) in
     let runs = adds_alike s t (λ h. h ≡ Reached (instance_seen list (record { method = entry; context = c.root.result }))) (λ h. h ≡ Reached (instance_at entry []))
-        (c.in_ok-add_fact.ensures list g.met.X.Contexts.equal_lists) (same_goal e) in
+    (c.in_ok-add_fact.ensures list g.met.X.Contexts.equal_lists) (same_goal e) in
     on_ok_weaker c.add_fields.result
     (λ last.
     adds_more s u v (λ h. (h ≡ Reached (instance_at entry [])) ⊎ EntryGives program entry h) (FromBelow (length program.fields) (FieldGives program)) (ByFirst program entry)
